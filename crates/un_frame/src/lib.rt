@@ -1,0 +1,16 @@
+//! Parameters of a link, the verdict on a frame, and the faults of a transfer.
+#![tactic(auto)]
+
+mod bytes;
+mod fault;
+mod judge;
+mod kinds;
+mod laws;
+mod params;
+
+pub use bytes::Bytes;
+pub use fault::{Fault, Kind};
+pub use judge::{address, verdict};
+pub use kinds::{Address, FaultKind, Phase, Verdict};
+pub use laws::{faults_are_exact, forms_are_read, readings_are_one};
+pub use params::{Class, Lane, Params};

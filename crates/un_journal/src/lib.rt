@@ -1,0 +1,10 @@
+//! The history of a link: its lines, the actions that write them, and what they mean.
+#![tactic(auto)]
+
+mod actions;
+mod controls;
+mod lines;
+
+pub use actions::{Action, Answer};
+pub use controls::{Control, Due, Planned};
+pub use lines::Line;
