@@ -12,5 +12,8 @@ pub use bytes::Bytes;
 pub use fault::{Fault, Kind};
 pub use judge::{address, verdict};
 pub use kinds::{Address, FaultKind, Phase, Verdict};
-pub use laws::{faults_are_exact, forms_are_read, readings_are_one};
+pub use laws::{
+    faults_are_exact, forms_are_read, forms_are_short, open_transfers, parts_are_frames,
+    readings_are_one, segments_fit, taken_frames,
+};
 pub use params::{Class, Lane, Params};
