@@ -1,0 +1,4 @@
+pub mod Entries
+pub mod Hexes
+pub mod TextLemmas
+pub mod WroteLemmas

@@ -2,9 +2,18 @@
 #![tactic(auto)]
 
 mod actions;
+mod buffer;
 mod controls;
+mod heads;
+mod journal;
 mod lines;
+#[cfg(test)]
+mod tests;
+mod writer;
 
 pub use actions::{Action, Answer};
+pub use buffer::{Buffer, number, word};
 pub use controls::{Control, Due, Planned};
+pub use journal::Journal;
 pub use lines::Line;
+pub use writer::{put, reserve, write_hex, write_trace};
