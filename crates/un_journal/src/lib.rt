@@ -3,6 +3,7 @@
 
 mod actions;
 mod controls;
+mod laws;
 mod lines;
 
 pub use actions::{Action, Answer};
