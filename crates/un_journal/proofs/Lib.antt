@@ -26,3 +26,4 @@ pub mod Closed
 pub mod Moments
 pub mod Room
 pub mod Landing
+pub mod Examples
