@@ -26,4 +26,5 @@ pub mod Closed
 pub mod Moments
 pub mod Room
 pub mod Landing
+pub mod Counts
 pub mod Examples

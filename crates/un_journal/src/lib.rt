@@ -2,10 +2,12 @@
 #![tactic(auto)]
 
 mod actions;
+mod census;
 mod controls;
 mod laws;
 mod lines;
 
 pub use actions::{Action, Answer};
+pub use census::Census;
 pub use controls::{Control, Due, Planned};
 pub use lines::Line;
