@@ -28,3 +28,7 @@ pub mod Room
 pub mod Landing
 pub mod Counts
 pub mod Examples
+pub mod Entries
+pub mod Hexes
+pub mod TextLemmas
+pub mod WroteLemmas
