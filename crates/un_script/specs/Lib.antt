@@ -1,0 +1,7 @@
+pub mod Words
+pub mod Numbers
+pub mod Table
+pub mod Parts
+pub mod Reading
+pub mod Examples
+pub mod Law

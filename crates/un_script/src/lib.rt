@@ -1,0 +1,19 @@
+//! Scripts: what a run of a link is given, and their text.
+#![tactic(auto)]
+
+mod law;
+mod lines;
+mod numbers;
+mod reader;
+mod script;
+mod standing;
+mod table;
+#[cfg(test)]
+mod tests;
+mod why;
+
+pub use law::read_scripts_are_ready;
+pub use reader::read;
+pub use script::Script;
+pub use standing::Standing;
+pub use why::{ScriptError, Why};

@@ -1,0 +1,238 @@
+//! What a script says.
+
+ghost use Rattle.std.specs.Prelude.{◌≡◌, ◌<◌, ◌≤◌, ◌∷◌, ◌++◌, [], None, Some, length, OnOk, OnErr, IsTrue, MatchOption, slice_get};
+ghost use Rattle.un_frame.specs.Lanes.{same_lane};
+ghost use Rattle.un_frame.specs.Params.{AreInRange};
+ghost use Rattle.un_journal.specs.Script.{planned, planned_in, frames_of, frames_in};
+ghost use Rattle.un_script.specs.Parts.{empty_script, no_frames, frame_added, with_frame, frame_count, standing_of, may_come};
+ghost use Rattle.un_script.specs.Table.{is_sender, is_want, is_planned_serial, MOST_FRAMES, MOST_CONTROLS, MOST_FAULTS};
+
+use crate::standing::{Standing, stands_after};
+use std::alloc::{AllocError, Global};
+use std::marker::Model;
+use un_frame::{Bytes, FaultKind, Lane, Params};
+use un_journal::{Due, Planned};
+
+/// The frames of the four senders of a lane.
+#[derive(Drop)]
+struct Senders {
+    first: Vec<Bytes>,
+    second: Vec<Bytes>,
+    third: Vec<Bytes>,
+    fourth: Vec<Bytes>,
+}
+
+impl Model for Senders {
+    ghost use Rattle.un_journal.specs.Script.{Feeds};
+
+    ghost Value = { Feeds };
+
+    ghost view = { λ s. record { first = s.first.items; second = s.second.items; third = s.third.items; fourth = s.fourth.items } };
+}
+
+impl Senders {
+    fn make(alloc: Global) -> Senders
+        ensures { result ≡ no_frames }
+    {
+        Senders {
+            first: Vec::new(alloc),
+            second: Vec::new(alloc),
+            third: Vec::new(alloc),
+            fourth: Vec::new(alloc),
+        }
+    }
+
+    fn add(&mut self, sender: u32, frame: Bytes) -> Result<(), AllocError>
+        requires { IsTrue (is_sender sender) }
+        ensures ok { OnOk result (self.new ≡ frame_added sender frame self.old) }
+        ensures err { OnErr result (self.new ≡ self.old) }
+    {
+        match sender {
+            0 => self.first.push(frame)?,
+            1 => self.second.push(frame)?,
+            2 => self.third.push(frame)?,
+            _ => self.fourth.push(frame)?,
+        }
+        Ok(())
+    }
+
+    fn frame(&self, sender: u32, index: u64) -> Option<&[u8]>
+        ensures { MatchOption result (slice_get (frames_in self.now sender) index ≡ None) (λ f. slice_get (frames_in self.now sender) index ≡ Some f.now) }
+    {
+        match sender {
+            0 => nth(&self.first, index),
+            1 => nth(&self.second, index),
+            2 => nth(&self.third, index),
+            3 => nth(&self.fourth, index),
+            _ => None,
+        }
+    }
+}
+
+/// Lends the frame with this index.
+fn nth(frames: &[Bytes], index: u64) -> Option<&[u8]>
+    ensures { MatchOption result (slice_get frames.now index ≡ None) (λ f. slice_get frames.now index ≡ Some f.now) }
+{
+    match frames.get(index as usize) {
+        Some(frame) => Some(frame.as_slice()),
+        None => None,
+    }
+}
+
+/// A script: the parameters of a link, the frames that each sender of a lane has (its feed), the controls and the planned
+/// faults (this project's own). A lane has four senders, 0 to 3. There are at most 65,536 frames in both lanes together, 256
+/// controls and 1,024 faults.
+#[derive(Drop)]
+pub struct Script {
+    params: Params,
+    outward: Senders,
+    inward: Senders,
+    controls: Vec<Due>,
+    faults: Vec<Planned>,
+    frames: u32,
+    standing: Standing,
+}
+
+impl Model for Script {
+    ghost use Rattle.std.specs.Prelude.{◌≡◌, ◌+◌, Some};
+    ghost use Rattle.un_journal.specs.Script.{Script as ScriptData};
+
+    ghost Value = { ScriptData };
+
+    ghost use Rattle.un_script.specs.Parts.{standing_of, frames_in_all};
+
+    ghost view = { λ s. record { params = s.params; outward = s.outward; inward = s.inward; controls = s.controls.items; faults = s.faults.items } };
+
+    ghost invariant = { λ s. (s.frames ≡ frames_in_all s.outward + frames_in_all s.inward) × (standing_of s.controls.items ≡ Some s.standing) };
+}
+
+impl Script {
+    /// A script with no frames, controls and faults. It keeps the allocator for those that are added.
+    #[tactic(auto, unfolding(crate::specs::Parts::standing_from))]
+    pub fn make(alloc: Global, params: Params) -> Script
+        requires { AreInRange params }
+        ensures { result ≡ empty_script params }
+    {
+        Script {
+            params,
+            outward: Senders::make(alloc),
+            inward: Senders::make(alloc),
+            controls: Vec::new(alloc),
+            faults: Vec::new(alloc),
+            frames: 0,
+            standing: Standing::AtWork,
+        }
+    }
+
+    /// Lends the parameters.
+    pub fn params(&self) -> &Params
+        ensures { result.now ≡ self.now.params }
+    {
+        &self.params
+    }
+
+    pub(crate) fn set_params(&mut self, params: Params)
+        ensures { self.new ≡ record self.old { params = params } }
+    {
+        self.params = params;
+    }
+
+    /// How many frames there are, in both lanes together.
+    pub fn frame_count(&self) -> u32
+        ensures { result ≡ Rattle.un_script.specs.Parts.frame_count self.now }
+    {
+        self.frames
+    }
+
+    /// Adds a frame at the end of a sender's feed. After the error, which is want of memory, the script is unchanged and the
+    /// frame is given up.
+    pub fn add_frame(&mut self, lane: Lane, sender: u32, frame: Bytes) -> Result<(), AllocError>
+        requires sender { IsTrue (is_sender sender) }
+        requires bytes { 0 < length frame }
+        requires room { frame_count self.old < MOST_FRAMES }
+        ensures ok { OnOk result (self.new ≡ with_frame lane sender frame self.old) }
+        ensures err { OnErr result (self.new ≡ self.old) }
+    {
+        match lane {
+            Lane::Outward => self.outward.add(sender, frame)?,
+            Lane::Inward => self.inward.add(sender, frame)?,
+        }
+        self.frames += 1;
+        Ok(())
+    }
+
+    /// Adds a control behind the others, which it has to be able to follow. After the error, which is want of memory, the
+    /// script is unchanged.
+    #[tactic(auto, using(crate::proofs::Standings::standing_more))]
+    pub fn add_control(&mut self, due: Due) -> Result<(), AllocError>
+        requires want { IsTrue (is_want due.want) }
+        requires room { length self.old.controls < MOST_CONTROLS }
+        requires order { IsTrue (may_come self.old.controls due) }
+        ensures ok { OnOk result (self.new ≡ record self.old { controls = self.old.controls ++ due ∷ [] }) }
+        ensures err { OnErr result (self.new ≡ self.old) }
+    {
+        let next = stands_after(due.control, self.standing);
+        self.controls.push(due)?;
+        if let Some(standing) = next {
+            self.standing = standing;
+        }
+        Ok(())
+    }
+
+    /// Plans a fault for a transfer that has none planned. After the error, which is want of memory, the script is unchanged.
+    pub fn add_fault(&mut self, lane: Lane, serial: u64, kind: FaultKind) -> Result<(), AllocError>
+        requires serial { IsTrue (is_planned_serial serial) }
+        requires room { length self.old.faults < MOST_FAULTS }
+        requires first { planned self.old lane serial ≡ None }
+        ensures ok { OnOk result (self.new ≡ record self.old { faults = self.old.faults ++ record { lane = lane; serial = serial; kind = kind } ∷ [] }) }
+        ensures err { OnErr result (self.new ≡ self.old) }
+    {
+        self.faults.push(Planned { lane, serial, kind })?;
+        Ok(())
+    }
+
+    /// Lends the frame with this index in a sender's feed, where there is one.
+    pub fn frame(&self, lane: Lane, sender: u32, index: u64) -> Option<&[u8]>
+        ensures { MatchOption result (slice_get (frames_of self.now lane sender) index ≡ None) (λ f. slice_get (frames_of self.now lane sender) index ≡ Some f.now) }
+    {
+        match lane {
+            Lane::Outward => self.outward.frame(sender, index),
+            Lane::Inward => self.inward.frame(sender, index),
+        }
+    }
+
+    /// The control with this index, where there is one.
+    pub fn control(&self, index: u32) -> Option<Due>
+        ensures { result ≡ slice_get self.now.controls index }
+    {
+        self.controls.get(index as usize).copied()
+    }
+
+    /// What the plan has for a transfer, where it has a fault for it.
+    pub fn fault(&self, lane: Lane, serial: u64) -> Option<FaultKind>
+        ensures { result ≡ planned self.now lane serial }
+    {
+        planned(&self.faults, lane, serial)
+    }
+}
+
+/// What a plan has for a transfer.
+fn planned(faults: &[Planned], lane: Lane, serial: u64) -> Option<FaultKind>
+    ensures { result ≡ planned_in faults.now lane serial }
+{
+    for fault in faults {
+        if same_lane(fault.lane, lane) && fault.serial == serial {
+            return Some(fault.kind);
+        }
+    }
+    None
+}
+
+fn same_lane(a: Lane, b: Lane) -> bool
+    ensures { result ≡ Rattle.un_frame.specs.Lanes.same_lane a b }
+{
+    match (a, b) {
+        (Lane::Outward, Lane::Outward) | (Lane::Inward, Lane::Inward) => true,
+        _ => false,
+    }
+}
