@@ -12,3 +12,6 @@ mod writer;
 
 pub use parts::{Parts, read};
 pub use writer::Writer;
+
+#[cfg(test)]
+mod tests;

@@ -102,7 +102,7 @@ impl<const WIDTH: usize> Writer<WIDTH> {
         requires capacity { self.old.block ≤ request.old.capacity }
         ensures writer { self.new ≡ record self.old { sizes = []; is_open = true } }
         ensures request { request.new ≡ record request.old { bytes = open_block (format_of WIDTH) self.old.layout [] } }
-        ensures left { IsOpenBlock (format_of WIDTH) self.old.layout self.new.sizes request.new.bytes [] }
+        ensures left { IsOpenBlock (format_of WIDTH) self.new.layout self.new.sizes request.new.bytes [] }
     {
         self.datagrams.clear();
         self.end = header::<WIDTH>() as u32;
@@ -140,7 +140,7 @@ impl<const WIDTH: usize> Writer<WIDTH> {
         ensures request { (frames : List (List ℕ)) → IsOpenBlock (format_of WIDTH) self.old.layout self.old.sizes request.old.bytes frames
             → request.new ≡ record request.old { bytes = open_block (format_of WIDTH) self.old.layout (frames ++ frame.now ∷ []) } }
         ensures left { (frames : List (List ℕ)) → IsOpenBlock (format_of WIDTH) self.old.layout self.old.sizes request.old.bytes frames
-            → IsOpenBlock (format_of WIDTH) self.old.layout self.new.sizes request.new.bytes (frames ++ frame.now ∷ []) }
+            → IsOpenBlock (format_of WIDTH) self.new.layout self.new.sizes request.new.bytes (frames ++ frame.now ∷ []) }
     {
         let at = place(self.end, self.divisor, self.remainder);
         push_datagram(request, at - self.end, frame);
