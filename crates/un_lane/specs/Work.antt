@@ -1,5 +1,6 @@
 -- What a path has yet to write: an upper bound on the lines and bytes of all calls but those of offer.
 use Rattle.std.specs.Prelude.{◌≡◌, ℕ, ◌+◌, ◌*◌, ◌≤◌, List, length, sum_by, Option, Some, None}
+use Rattle.un_journal.specs.Log.{Log}
 use Rattle.un_lane.specs.Way.{Transfer, Way, one_if_some}
 use Rattle.un_lane.specs.Steps.{Outcome, offer_of, fly_of, tx_done_of, rx_done_of, deliver_of, refill_of, size_of}
 
@@ -20,17 +21,26 @@ abbrev pub load : Way → ℕ
 load way = sum_by size_of_transfer way.queued + sum_by size_of_transfer way.arrived + size_if_some way.current
 
 -- a call uses up just what it writes
-pub record Spends (way : Way) (outcome : Outcome) : Type 0 where
+pub record UsesUp (way : Way) (outcome : Outcome) : Type 0 where
   pub work : work outcome.way + length outcome.lines ≡ work way
   pub load : load outcome.way + size_of outcome.lines ≡ load way
 
--- an offer that is accepted writes two lines and the frame's bytes, and leaves as many bytes and six lines to write
-pub record Adds (frame : List ℕ) (way : Way) (outcome : Outcome) : Type 0 where
+-- an offer comes to at most eight lines, and to twice the frame's bytes, what it writes itself included
+pub record Brings (frame : List ℕ) (way : Way) (outcome : Outcome) : Type 0 where
   pub work : work outcome.way + length outcome.lines ≤ work way + 8
   pub load : load outcome.way + size_of outcome.lines ≤ load way + 2 * length frame
 
-abbrev pub EachCallSpends : Type 0
-EachCallSpends = (way : Way) → Spends way (fly_of way) × Spends way (tx_done_of way) × Spends way (rx_done_of way) × Spends way (deliver_of way) × Spends way (refill_of way)
+-- the same of the journal's room, before and after
+pub record Spends (way way' : Way) (log log' : Log) : Type 0 where
+  pub lines : work way' + log.spare_lines ≡ work way + log'.spare_lines
+  pub bytes : load way' + log.spare_bytes ≡ load way + log'.spare_bytes
 
-abbrev pub OffersAdd : Type 0
-OffersAdd = (sender : ℕ) (frame : List ℕ) (way : Way) → Adds frame way (offer_of sender frame way)
+pub record Adds (frame : List ℕ) (way way' : Way) (log log' : Log) : Type 0 where
+  pub lines : work way' + log.spare_lines ≤ work way + log'.spare_lines + 8
+  pub bytes : load way' + log.spare_bytes ≤ load way + log'.spare_bytes + 2 * length frame
+
+abbrev pub EachCallUsesUp : Type 0
+EachCallUsesUp = (way : Way) → UsesUp way (fly_of way) × UsesUp way (tx_done_of way) × UsesUp way (rx_done_of way) × UsesUp way (deliver_of way) × UsesUp way (refill_of way)
+
+abbrev pub OffersBring : Type 0
+OffersBring = (sender : ℕ) (frame : List ℕ) (way : Way) → Brings frame way (offer_of sender frame way)

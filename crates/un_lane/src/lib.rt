@@ -4,6 +4,8 @@
 mod laws;
 mod path;
 mod request;
+#[cfg(test)]
+mod tests;
 
-pub use laws::{calls_spend, offers_add};
+pub use laws::{calls_use_up, offers_bring};
 pub use path::Path;

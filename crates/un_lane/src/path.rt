@@ -5,6 +5,7 @@ ghost use Rattle.un_frame.specs.Params.{AreInRange};
 ghost use Rattle.un_frame.specs.Verdict.{verdict_of};
 ghost use Rattle.un_frame.specs.declared.kinds.Verdict.TheVariants.{Take};
 ghost use Rattle.un_lane.specs.Way.{fresh, EachIsPlaced};
+ghost use Rattle.un_lane.specs.Work.{Spends, Adds};
 ghost use Rattle.un_lane.specs.Steps.{offer_of, fly_of, tx_done_of, rx_done_of, deliver_of, refill_of, HasRoom, Gains, IsCounted};
 
 use crate::request::{Free, Held};
@@ -102,6 +103,7 @@ impl Path {
         ensures path { self.new ≡ (offer_of sender frame.now self.old).way }
         ensures lines { Gains journal.old journal.new (offer_of sender frame.now self.old).lines }
         ensures counted { IsCounted self.new journal.new }
+        ensures adds { Adds frame.now self.old self.new journal.old journal.new }
     {
         let Some(request) = self.tx_home.pop() else {
             return Answer::Busy;
@@ -133,6 +135,7 @@ impl Path {
         ensures path { self.new ≡ (fly_of self.old).way }
         ensures lines { Gains journal.old journal.new (fly_of self.old).lines }
         ensures counted { IsCounted self.new journal.new }
+        ensures spends { Spends self.old self.new journal.old journal.new }
     {
         if self.queued.is_empty() {
             return Answer::Nothing;
@@ -161,6 +164,7 @@ impl Path {
         ensures path { self.new ≡ (tx_done_of self.old).way }
         ensures lines { Gains journal.old journal.new (tx_done_of self.old).lines }
         ensures counted { IsCounted self.new journal.new }
+        ensures spends { Spends self.old self.new journal.old journal.new }
     {
         let Some(done) = self.done.pop_front() else {
             return Answer::Nothing;
@@ -181,6 +185,7 @@ impl Path {
         ensures path { self.new ≡ (rx_done_of self.old).way }
         ensures lines { Gains journal.old journal.new (rx_done_of self.old).lines }
         ensures counted { IsCounted self.new journal.new }
+        ensures spends { Spends self.old self.new journal.old journal.new }
     {
         if self.current.is_some() {
             return Answer::Nothing;
@@ -204,6 +209,7 @@ impl Path {
         ensures path { self.new ≡ (deliver_of self.old).way }
         ensures lines { Gains journal.old journal.new (deliver_of self.old).lines }
         ensures counted { IsCounted self.new journal.new }
+        ensures spends { Spends self.old self.new journal.old journal.new }
     {
         let Some(current) = self.current.take() else {
             return Answer::Nothing;
@@ -223,6 +229,7 @@ impl Path {
         ensures path { self.new ≡ (refill_of self.old).way }
         ensures lines { Gains journal.old journal.new (refill_of self.old).lines }
         ensures counted { IsCounted self.new journal.new }
+        ensures spends { Spends self.old self.new journal.old journal.new }
     {
         let Some(request) = self.rx_home.pop() else {
             return Answer::Nothing;
