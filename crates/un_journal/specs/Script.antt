@@ -1,5 +1,5 @@
 -- A script as plain data.
-use Rattle.std.specs.Prelude.{ℕ, zero, suc, ◌+◌, true, false, ◌&&◌, ◌==◌, List, [], ◌∷◌, ◌++◌, Option, Some, None, unwrap_or, slice_get, length, if◌then◌else◌}
+use Rattle.std.specs.Prelude.{ℕ, ◌&&◌, ◌==◌, List, [], ◌∷◌, Option, Some, None, unwrap_or, slice_get, if◌then◌else◌}
 use Rattle.un_frame.specs.declared.params.Lane.{Lane}
 use Rattle.un_frame.specs.declared.params.Lane.TheVariants.{Outward, Inward}
 use Rattle.un_frame.specs.declared.kinds.FaultKind.{FaultKind}
@@ -26,23 +26,32 @@ pub record Script : Type 0 where
   pub controls : List Due
   pub faults : List Planned
 
--- the frames of a sender; there are no senders but 0 to 3
-abbrev pub frames_in : Feeds → ℕ → List Frame
-frames_in feeds sender =
-    if sender == 0 then feeds.first
-    else (if sender == 1 then feeds.second
-    else (if sender == 2 then feeds.third
-    else (if sender == 3 then feeds.fourth else [])))
+-- the feeds of a lane, by sender from 0 on
+abbrev pub feed_list : Feeds → List (List Frame)
+feed_list feeds = feeds.first ∷ feeds.second ∷ feeds.third ∷ feeds.fourth ∷ []
 
+abbrev pub feeds_of : Script → Lane → List (List Frame)
+feeds_of script Outward = feed_list script.outward
+feeds_of script Inward = feed_list script.inward
+
+-- the frames of a sender; there are no senders but 0 to 3
 abbrev pub frames_of : Script → Lane → ℕ → List Frame
-frames_of script Outward sender = frames_in script.outward sender
-frames_of script Inward sender = frames_in script.inward sender
+frames_of script lane sender = unwrap_or (slice_get (feeds_of script lane) sender) []
 
 abbrev pub planned_in : List Planned → Lane → ℕ → Option FaultKind
 planned_in [] lane serial = None
 planned_in (p ∷ ps) lane serial =
     if same_lane p.lane lane && p.serial == serial then Some p.kind else planned_in ps lane serial
 
--- what the plan has for a transfer
+-- what the plan has for a transfer: the first fault that names its lane and serial
 abbrev pub planned : Script → Lane → ℕ → Option FaultKind
 planned script lane serial = planned_in script.faults lane serial
+
+-- the sizes of a lane's pools
+abbrev pub tx_size : Params → Lane → ℕ
+tx_size params Outward = params.tx_out
+tx_size params Inward = params.tx_in
+
+abbrev pub rx_size : Params → Lane → ℕ
+rx_size params Outward = params.rx_out
+rx_size params Inward = params.rx_in

@@ -1,0 +1,58 @@
+-- What the wire gives of transfers that are made of accepted frames.
+use Rattle.std.proofs.Common.{◌≡◌, ℕ, ◌+◌, ◌≤◌, true, List, [], ◌∷◌, ◌++◌, map, length, refl, sym, ap, subst, slice_get, unwrap_or, append-nil, append_assoc, IsTrue}
+use Rattle.std.proofs.lemmas.Bool.{false≢true}
+use Rattle.std.specs.List.{sum_by}
+use Rattle.un_frame.specs.declared.params.Params.{Params}
+use Rattle.un_frame.specs.declared.params.Class.{Class}
+use Rattle.un_frame.specs.declared.params.Class.TheVariants.{Ecm, Eem, Ncm16, Ncm32}
+use Rattle.un_frame.specs.Bytes.{slice_at}
+use Rattle.un_frame.specs.Lanes.{builds_blocks, sizes_fit_as, frames_fit}
+use Rattle.un_frame.specs.Parts.{places_as, datagram_of}
+use Rattle.un_frame.specs.Wire.{form, fits_as, FitInTurn}
+use Rattle.un_journal.specs.Script.{Frame}
+
+-- frames fit one transfer, one after the other
+abbrev pub FramesFit : Params → List Frame → Type 0
+FramesFit params frames = FitInTurn params.class params [] (map length frames)
+
+-- each has at least 14 bytes, and at most a segment
+abbrev pub AreFrames : Params → List Frame → Type 0
+AreFrames params [] = Unit {0}
+AreFrames params (frame ∷ rest) = (14 ≤ length frame) × (length frame ≤ params.segment) × AreFrames params rest
+
+pub record WireHolds (params : Params) : Type 0 where
+  -- an accepted frame fits an empty transfer
+  pub one_fits : (frame : Frame) → 14 ≤ length frame → length frame ≤ params.segment → FramesFit params (frame ∷ [])
+  -- a transfer is read as the frames that it was made of
+  pub is_read : (serial : ℕ) (frames : List Frame) → 1 ≤ length frames → AreFrames params frames → FramesFit params frames
+      → map (slice_at (form params serial frames)) (places_as params.class (form params serial frames)) ≡ frames
+  -- it is no longer than its frames with 192 bytes for each
+  pub is_short : (serial : ℕ) (frames : List Frame) → 1 ≤ length frames → AreFrames params frames
+      → length (form params serial frames) ≤ sum_by (λ frame. length frame + 192) frames
+
+fit_last : (class : Class) (params : Params) (before sizes : List ℕ) (size : ℕ) → FitInTurn class params before sizes → IsTrue (fits_as class params (before ++ sizes) size) → FitInTurn class params before (sizes ++ size ∷ [])
+fit_last class params before [] size f e = (subst (λ i. IsTrue (fits_as class params i size)) (append-nil before) e, tt)
+fit_last class params before (y ∷ sizes) size f e =
+    (f.0, fit_last class params (before ++ y ∷ []) sizes size f.1 (subst (λ i. IsTrue (fits_as class params i size)) (sym (append_assoc before (y ∷ []) sizes)) e))
+
+pub lengths_append : (xs ys : List Frame) → map length (xs ++ ys) ≡ map length xs ++ map length ys
+lengths_append [] ys = refl
+lengths_append (x ∷ xs) ys = ap (λ i. length x ∷ i) (lengths_append xs ys)
+
+-- in a block, together is one after the other
+fits_together : (class : Class) (params : Params) (sizes : List ℕ) (size : ℕ) → builds_blocks class ≡ true → sizes_fit_as class params (sizes ++ size ∷ []) ≡ true → fits_as class params sizes size ≡ true
+fits_together Ecm params sizes size b e = absurd (false≢true b)
+fits_together Eem params sizes size b e = absurd (false≢true b)
+fits_together Ncm16 params sizes size b e = e
+fits_together Ncm32 params sizes size b e = e
+
+pub fit_more : (params : Params) (frames : List Frame) (x : Frame) → builds_blocks params.class ≡ true → FramesFit params frames → frames_fit params (frames ++ x ∷ []) ≡ true → FramesFit params (frames ++ x ∷ [])
+fit_more params frames x b f e =
+    subst (FitInTurn params.class params []) (sym (lengths_append frames (x ∷ [])))
+    (fit_last params.class params [] (map length frames) (length x) f
+    (fits_together params.class params (map length frames) (length x) b (subst (λ i. sizes_fit_as params.class params i ≡ true) (lengths_append frames (x ∷ [])) e)))
+
+-- a part of a transfer that is read as these frames
+pub part_is : (class : Class) (bytes : List ℕ) (frames : List Frame) (i : ℕ) → map (slice_at bytes) (places_as class bytes) ≡ frames → datagram_of class bytes i ≡ unwrap_or (slice_get frames i) []
+unfolding datagram_of
+part_is class bytes frames i e = ap (λ fs. unwrap_or (slice_get fs i) []) e

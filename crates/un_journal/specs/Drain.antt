@@ -1,0 +1,49 @@
+-- Runs of actions, the serial round and the drain.
+use Rattle.std.specs.Prelude.{ℕ, zero, suc, ◌+◌, ◌*◌, Bool, true, false, List, [], ◌∷◌, ◌++◌, length, sum_by, nat_le}
+use Rattle.un_frame.specs.declared.params.Lane.TheVariants.{Outward, Inward}
+use Rattle.un_journal.specs.declared.actions.Action.{Action}
+use Rattle.un_journal.specs.Script.{Script, feeds_of}
+use Rattle.un_journal.specs.History.{History}
+use Rattle.un_journal.specs.Step.{step_of}
+
+-- the history after these actions
+abbrev pub run : Script → History → List Action → History
+run script h [] = h
+run script h (a ∷ rest) = run script (h ++ step_of script h a) rest
+
+abbrev pub round : List Action
+round =
+    Action.Control false ∷ Action.Refill Outward ∷ Action.Refill Inward
+    ∷ Action.Offer Outward 0 ∷ Action.Offer Outward 1 ∷ Action.Offer Outward 2 ∷ Action.Offer Outward 3
+    ∷ Action.Offer Inward 0 ∷ Action.Offer Inward 1 ∷ Action.Offer Inward 2 ∷ Action.Offer Inward 3
+    ∷ Action.Tick Outward ∷ Action.Tick Inward ∷ Action.Move Outward ∷ Action.Move Inward
+    ∷ Action.TxDone Outward ∷ Action.TxDone Inward ∷ Action.RxDone Outward ∷ Action.RxDone Inward
+    ∷ Action.Deliver Outward ∷ Action.Deliver Inward ∷ Action.Unlink Outward ∷ Action.Unlink Inward
+    ∷ Action.ClearHalt Outward ∷ Action.ClearHalt Inward ∷ Action.Settle ∷ []
+
+-- the bound on the lines of a history
+abbrev pub frames : Script → ℕ
+frames script = sum_by length (feeds_of script Outward) + sum_by length (feeds_of script Inward)
+
+abbrev pub line_bound : Script → ℕ
+line_bound script =
+    13 * frames script + (2 * length script.controls + 1) * (script.params.rx_out + script.params.rx_in) + 4 * length script.controls
+
+-- whether the second history is no longer than the first
+abbrev pub same_length : History → History → Bool
+same_length h h' = nat_le (length h') (length h)
+
+-- the drain, in at most so many rounds: a round that writes nothing is followed by a forced control, and the drain
+-- ends where that writes nothing either
+abbrev pub drain_in : ℕ → Script → History → History
+drain_in zero script h = h
+drain_in (suc rounds) script h =
+    let after = run script h round in
+    elim (same_length h after) [
+      | false ↦ drain_in rounds script after
+      | true ↦ let forced = h ++ step_of script h (Action.Control true) in
+          elim (same_length h forced) [ false ↦ drain_in rounds script forced | true ↦ h ]
+    ]
+
+abbrev pub drain : Script → History → History
+drain script h = drain_in (line_bound script + 1) script h

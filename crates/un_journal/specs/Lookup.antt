@@ -1,0 +1,152 @@
+-- What a history says with its script: the phase, the feeds, the requests at home, the next block.
+use Rattle.std.specs.Prelude.{ℕ, zero, suc, ◌+◌, ◌-◌, min, Bool, true, false, not, ◌&&◌, ◌||◌, nat_lt, List, [], ◌∷◌, ◌++◌, reverse, length, drop, Option, Some, None, unwrap_or, is_some, slice_get, if◌then◌else◌}
+use Rattle.un_frame.specs.declared.params.Lane.{Lane}
+use Rattle.un_frame.specs.declared.params.Lane.TheVariants.{Outward, Inward}
+use Rattle.un_frame.specs.declared.kinds.Phase.{Phase}
+use Rattle.un_frame.specs.declared.kinds.Phase.TheVariants.{Up, Asleep, Stopping, Leaving}
+use Rattle.un_frame.specs.declared.params.Params.{Params}
+use Rattle.un_frame.specs.Lanes.{packs}
+use Rattle.un_frame.specs.Cut.{closed_span}
+use Rattle.un_journal.specs.declared.lines.Line.{Line}
+use Rattle.un_journal.specs.declared.lines.Line.TheVariants.{Took, Settled}
+use Rattle.un_journal.specs.declared.controls.Control.{Control as Order}
+use Rattle.un_journal.specs.declared.controls.Due.{Due}
+use Rattle.un_journal.specs.Script.{Script, Frame, frames_of, tx_size, rx_size}
+use Rattle.un_journal.specs.History.{History, taken, consumed, made, cover, built, took_last, waited_after, returned, posts, recalls, failures, flight_cuts, delivered, waiting, those, flies, waits, mark}
+
+-- PHASE
+
+abbrev pub after_order : Order → Phase → Phase
+after_order Order.Suspend phase = Phase.Asleep
+after_order Order.Resume phase = Phase.Up
+after_order Order.Up phase = Phase.Up
+after_order Order.Down phase = Phase.Stopping
+after_order Order.Unplug phase = Phase.Leaving
+after_order (Order.Unlink lane) phase = phase
+
+abbrev pub after_control : Option Due → Phase → Phase
+after_control None phase = phase
+after_control (Some due) phase = after_order due.control phase
+
+abbrev pub after_settled : Phase → Phase
+after_settled Stopping = Phase.Down
+after_settled Leaving = Phase.Away
+after_settled phase = phase
+
+-- the phase after the lines of both lanes, the newest first
+abbrev pub phase_after : List Due → History → Phase
+phase_after controls [] = Phase.Up
+phase_after controls ((Line.Control c f, bytes) ∷ h) = after_control (slice_get controls c) (phase_after controls h)
+phase_after controls ((Settled t1 r1 t2 r2, bytes) ∷ h) = after_settled (phase_after controls h)
+phase_after controls (e ∷ h) = phase_after controls h
+
+abbrev pub phase_of : Script → History → Phase
+phase_of script history = phase_after script.controls (reverse history)
+
+abbrev pub is_awake : Phase → Bool
+is_awake Up = true
+is_awake _ = false
+
+abbrev pub is_asleep : Phase → Bool
+is_asleep Asleep = true
+is_asleep _ = false
+
+abbrev pub is_stopping : Phase → Bool
+is_stopping Stopping = true
+is_stopping _ = false
+
+abbrev pub is_leaving : Phase → Bool
+is_leaving Leaving = true
+is_leaving _ = false
+
+abbrev pub works : Phase → Bool
+works phase = is_awake phase || is_asleep phase
+
+-- how many controls were done
+abbrev pub controls_done : History → ℕ
+controls_done [] = 0
+controls_done ((Line.Control c f, bytes) ∷ h) = controls_done h + 1
+controls_done (e ∷ h) = controls_done h
+
+-- FEEDS AND DATAGRAMS, of the lane's lines g, the newest first
+
+-- the first frame of the sender's feed
+abbrev pub feed_head : Script → Lane → History → ℕ → Option Frame
+feed_head script lane g sender = slice_get (frames_of script lane sender) (consumed g sender)
+
+-- the accepted frames, in order
+abbrev pub datagrams : Script → Lane → History → List Frame
+datagrams script lane [] = []
+datagrams script lane ((Took l s, bytes) ∷ g) = datagrams script lane g ++ unwrap_or (feed_head script lane g s) [] ∷ []
+datagrams script lane (e ∷ g) = datagrams script lane g
+
+abbrev pub feeds_empty_from : Script → Lane → History → ℕ → ℕ → Bool
+feeds_empty_from script lane g sender zero = true
+feeds_empty_from script lane g sender (suc n) = not (is_some (feed_head script lane g sender)) && feeds_empty_from script lane g (sender + 1) n
+
+abbrev pub feeds_empty : Script → Lane → History → Bool
+feeds_empty script lane g = feeds_empty_from script lane g 0 4
+
+-- BLOCKS
+
+-- whether the lane's block is open
+abbrev pub block_open : Params → Lane → History → Bool
+block_open params Outward g = packs params.class Outward && nat_lt 0 (built g) && took_last g
+block_open params Inward g = packs params.class Inward && nat_lt 0 (built g)
+
+-- the open block that holds a claimed request
+abbrev pub block_claims : Params → Lane → History → Bool
+block_claims params Outward g = block_open params Outward g
+block_claims params Inward g = false
+
+-- the accepted frames from the first built one on
+abbrev pub built_frames : Script → Lane → History → List Frame
+built_frames script lane g = drop (cover g) (datagrams script lane g)
+
+-- the span that the last took line of g closes
+abbrev pub span_after_took : Script → Lane → History → Option (ℕ × ℕ)
+span_after_took script lane g = closed_span script.params lane (built_frames script lane g) (cover g) (taken g - 1)
+
+-- REQUESTS AT HOME
+
+abbrev pub tx_home : Params → Lane → History → ℕ
+tx_home params lane g = tx_size params lane + returned g - (made g + (if block_claims params lane g then 1 else 0))
+
+abbrev pub rx_home : Params → Lane → History → ℕ
+rx_home params lane g =
+    rx_size params lane + recalls g + failures g + flight_cuts g + length (delivered g) - posts g
+
+-- whether an offer whose lines these are needs a home request, g being the lines before it
+abbrev pub offer_needs_home : Params → Lane → History → Option (ℕ × ℕ) → Bool
+offer_needs_home params Outward g closed = not (block_open params Outward g)
+offer_needs_home params Inward g closed = is_some closed
+
+abbrev pub tick_needs_home : Params → Lane → History → Bool
+tick_needs_home params Outward g = not (block_open params Outward g)
+tick_needs_home params Inward g = true
+
+-- the pending count
+abbrev pub pending : Params → Lane → History → ℕ
+pending params Outward g =
+    if block_open params Outward g then 3 - waited_after g (min (taken g - 1) (cover g + 1)) else 0
+pending params Inward g = 0
+
+-- QUEUES
+
+-- the deferred and the queued transfers, in a phase
+abbrev pub deferred : Phase → Lane → History → List ℕ
+deferred Asleep Outward g = waiting g
+deferred _ lane g = []
+
+abbrev pub queued : Phase → Lane → History → List ℕ
+queued Asleep Outward g = []
+queued _ lane g = waiting g
+
+abbrev pub is_deferring : Phase → Lane → Bool
+is_deferring Asleep Outward = true
+is_deferring _ lane = false
+
+-- the transfers that fly or are queued and aren't marked
+abbrev pub unmarked : Phase → Lane → History → List ℕ
+unmarked phase lane g =
+    those (λ k. (flies g k || (not (is_deferring phase lane) && waits g k)) && not (is_some (mark g k))) (made g)

@@ -1,0 +1,15 @@
+-- The words of the sums of a lane's requests.
+use Rattle.std.specs.Prelude.{ℕ, ◌+◌, length, if◌then◌else◌}
+use Rattle.un_frame.specs.declared.params.Lane.{Lane}
+use Rattle.un_frame.specs.declared.params.Params.{Params}
+use Rattle.un_journal.specs.Script.{rx_size}
+use Rattle.un_journal.specs.History.{History, recalls, failures, flight_cuts, delivered}
+use Rattle.un_journal.specs.Lookup.{block_claims}
+
+-- the request that the open block claims
+abbrev pub claim : Params → Lane → History → ℕ
+claim params l g = if block_claims params l g then 1 else 0
+
+-- the receive requests that were at home at first or came back
+abbrev pub rx_back : Params → Lane → History → ℕ
+rx_back params l g = rx_size params l + recalls g + failures g + flight_cuts g + length (delivered g)
