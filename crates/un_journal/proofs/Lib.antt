@@ -27,6 +27,7 @@ pub mod Moments
 pub mod Room
 pub mod Landing
 pub mod Counts
+pub mod Spelled
 pub mod Examples
 pub mod Entries
 pub mod Hexes

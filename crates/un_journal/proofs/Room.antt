@@ -87,7 +87,7 @@ gave_size [] = 0
 gave_size ((Gave l n, bytes) ∷ g) = gave_size g + length bytes
 gave_size (e ∷ g) = gave_size g
 
-lane_frames : (script : Script) (l : Lane) (g : History) → AllLane script l g → AreFrames script.params (datagrams script l g)
+pub lane_frames : (script : Script) (l : Lane) (g : History) → AllLane script l g → AreFrames script.params (datagrams script l g)
 lane_frames script l [] all = tt
 lane_frames script l ((Took l' s, bytes) ∷ g) all =
     let r = all.0.rule in

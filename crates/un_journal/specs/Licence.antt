@@ -1,6 +1,6 @@
 -- What a line needs of the script and of the lines before it, the newest first: why a transfer failed or was cut, why datagrams were
 -- dropped, and that every request is home where a stop settles.
-use Rattle.std.specs.Prelude.{◌≡◌, ◌<◌, ℕ, false, ◌||◌, [], ◌∷◌, Some, None, slice_get, filter}
+use Rattle.std.specs.Prelude.{◌≡◌, ◌<◌, ℕ, false, ◌||◌, Some, None, slice_get, filter}
 use Rattle.un_frame.specs.declared.params.Lane.{Lane}
 use Rattle.un_frame.specs.declared.params.Lane.TheVariants.{Outward, Inward}
 use Rattle.un_journal.specs.declared.lines.Line.{Line}
@@ -54,8 +54,3 @@ Licensed script older (Dropped l a b c, bytes) = IsCause script older c Stops
 Licensed script older (Settled t1 r1 t2 r2, bytes) = AreSizes script t1 r1 t2 r2
 Licensed script older (Line.Control c f, bytes) = IsOrder script older c
 Licensed script older (e, bytes) = Unit {0}
-
--- every line is licensed at its place
-abbrev pub AllLicensed : Script → History → Type 0
-AllLicensed script [] = Unit {0}
-AllLicensed script (e ∷ older) = Licensed script older e × AllLicensed script older
