@@ -13,7 +13,8 @@ use Rattle.un_journal.specs.declared.controls.Due.{Due}
 use Rattle.un_journal.specs.Script.{Script, tx_size}
 use Rattle.un_journal.specs.History.{Entry, History, past, concerns, those, taken, made, cover, built, posted, flies, waits, waiting, ended, landed, failed, was_cut, mark, returned, told_if}
 use Rattle.un_journal.specs.Lookup.{phase_of, phase_after, after_order, after_control, after_settled, works, is_awake, is_stopping, is_leaving, controls_done, tx_home, deferred, unmarked, is_deferring}
-use Rattle.un_journal.specs.Step.{bare, cut_each, marked_each, recalled_each, dropped_built, order_lines, settled_line}
+use Rattle.un_journal.specs.LaneSteps.{bare}
+use Rattle.un_journal.specs.Step.{cut_each, marked_each, recalled_each, dropped_built, order_lines, settled_line}
 use Rattle.un_journal.specs.Sound.{IsSound}
 use Rattle.un_journal.specs.Done.{is_gone}
 use Rattle.un_journal.specs.Sums.{claim}

@@ -14,17 +14,18 @@ use Rattle.un_journal.specs.declared.controls.Due.{Due}
 use Rattle.un_journal.specs.Script.{Script, feeds_of}
 use Rattle.un_journal.specs.History.{History, past, concerns, flying, given, is_empty}
 use Rattle.un_journal.specs.Lookup.{phase_of, phase_after, after_order, after_control, after_settled, is_stopping, is_leaving, controls_done}
-use Rattle.un_journal.specs.Step.{Work, work, Outcome, is_still, lane_works, quiet, lines_in, control_head}
-use Rattle.un_journal.specs.Drain.{drain, line_bound}
+use Rattle.un_journal.specs.LaneSteps.{Outcome, lines_in}
+use Rattle.un_journal.specs.Step.{Work, work, is_still, lane_works, quiet, control_head}
+use Rattle.un_journal.specs.Drain.{drain}
 use Rattle.un_journal.proofs.Ranges.{HavePools}
-use Rattle.un_journal.specs.Done.{IsFinished, IsSpread, is_gone}
+use Rattle.un_journal.specs.Done.{IsFinished, is_gone}
 use Rattle.un_journal.specs.Unplug.{AwaitsUnplug, IsSettledAway, is_settled_last, IsPrefix}
 use Rattle.un_journal.specs.Fits.{Act, Works, Controls, Fits, Legal, IsDone, act_outcome}
 use Rattle.un_journal.proofs.Legal.{none_flies, empty_is}
 use Rattle.un_journal.proofs.Steps.{legal_good}
 use Rattle.un_journal.proofs.Rules.{AllRuled, legal_ruled, onto, past_onto}
 use Rattle.un_journal.proofs.Finished.{done_finished, is_quiet}
-use Rattle.un_journal.proofs.Drained.{Grounded, no_fit, sends_head, land_idle, drain_done, drain_extends, Extends, four_feeds}
+use Rattle.un_journal.proofs.Drained.{Grounded, no_fit, sends_head, land_idle, drain_done, Extends, four_feeds}
 
 -- FINISHED
 

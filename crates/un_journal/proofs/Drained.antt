@@ -8,10 +8,11 @@ use Rattle.un_frame.specs.declared.params.Lane.TheVariants.{Outward, Inward}
 use Rattle.un_frame.specs.Lanes.{same_lane}
 use Rattle.un_journal.specs.declared.lines.Line.TheVariants.{Flying, Landed, Failed, Cut}
 use Rattle.un_journal.specs.declared.actions.Action.{Action}
-use Rattle.un_journal.specs.Script.{Script, feeds_of}
+use Rattle.un_journal.specs.Script.{Script, feeds_of, planned}
 use Rattle.un_journal.specs.History.{Entry, History, past, concerns, made, flies, flying, mark}
 use Rattle.un_journal.specs.Lookup.{phase_of, controls_done}
-use Rattle.un_journal.specs.Step.{Outcome, Writes, Answers, lines_in, Work, work, bare, move_after, step_of, order_lines, land_from, land_marked, land_planned, land_flight}
+use Rattle.un_journal.specs.LaneSteps.{Outcome, Writes, Answers, lines_in, bare, land_marked}
+use Rattle.un_journal.specs.Step.{Work, work, move_after, step_of, order_lines, land_from, land_flight}
 use Rattle.un_journal.specs.Drain.{run, round, drain_in, drain, same_length, line_bound}
 use Rattle.un_journal.specs.Fits.{Act, Works, Controls, Fits, takes, refuses, waits_once, closes, begins_flight, cuts_queued, lands, fails, cuts_flight, comes_home, opens, gives, posts_one, marks, recalls_one, clears, settles, orders, orders_forced, Legal, IsDone, act_outcome, after_took}
 use Rattle.un_journal.proofs.Steps.{legal_good}
@@ -281,7 +282,7 @@ take_case script h lines act l legal t (settles s e) = absurd (none_lane l t)
 take_case script h lines act l legal t (orders force due e p d z) = absurd (none_lane l t)
 take_case script h lines act l legal t (orders_forced due e p d q z) = absurd (none_lane l t)
 
-land_from_list : (script : Script) (l : Lane) (g : History) (k : ℕ) (xs ks : List ℕ) → xs ≡ k ∷ ks → land_from script l g xs ≡ land_marked script l k (mark g k)
+land_from_list : (script : Script) (l : Lane) (g : History) (k : ℕ) (xs ks : List ℕ) → xs ≡ k ∷ ks → land_from script l g xs ≡ land_marked l (planned script l k) k (mark g k)
 land_from_list script l g k xs ks e = rw e refl
 
 -- the line of a landing right after the flight

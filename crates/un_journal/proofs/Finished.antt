@@ -19,7 +19,8 @@ use Rattle.un_journal.specs.declared.controls.Due.{Due}
 use Rattle.un_journal.specs.Script.{Script, Frame, tx_size, rx_size}
 use Rattle.un_journal.specs.History.{History, past, first, taken, made, cover, built, took_last, posted, flies, flying, waits, waiting, ended, landed, failed, was_cut, opened, gave, arrived, current, left_of, is_empty, delivered, mark, returned, halted, serial_of, dropped, for_serial}
 use Rattle.un_journal.specs.Lookup.{phase_of, works, is_awake, is_asleep, is_stopping, is_leaving, controls_done, feed_head, tx_home, rx_home, offer_needs_home, tick_needs_home, pending, queued, unmarked, span_after_took, block_open}
-use Rattle.un_journal.specs.Step.{Work, work, Outcome, Writes, Answers, is_still, lane_works, quiet, all_home, hinders, is_due}
+use Rattle.un_journal.specs.LaneSteps.{Outcome, Writes, Answers}
+use Rattle.un_journal.specs.Step.{Work, work, is_still, lane_works, quiet, all_home, hinders, is_due}
 use Rattle.un_journal.proofs.Ranges.{HavePools}
 use Rattle.un_journal.specs.Done.{IsSpread, IsGivenOut, IsStuck, IsFinished, is_gone}
 use Rattle.un_journal.specs.Sums.{claim}

@@ -23,7 +23,8 @@ use Rattle.un_journal.specs.declared.controls.Due.{Due}
 use Rattle.un_journal.specs.Script.{Script, Frame}
 use Rattle.un_journal.specs.History.{Entry, History, past, concerns, taken, made, cover, built, span, span_numbers, made_bytes, told_if, left_of, first, gave, posted}
 use Rattle.un_journal.specs.Lookup.{phase_of, controls_done, feed_head, datagrams, span_after_took, deferred, unmarked}
-use Rattle.un_journal.specs.Step.{bare, made_if, datagram_bytes, span_start, order_lines, cut_each, marked_each, recalled_each, dropped_built}
+use Rattle.un_journal.specs.LaneSteps.{bare, datagram_bytes, span_start}
+use Rattle.un_journal.specs.Step.{made_if, order_lines, cut_each, marked_each, recalled_each, dropped_built}
 use Rattle.un_journal.specs.Bytes.{AreDatagrams}
 use Rattle.un_journal.proofs.Transfers.{FramesFit, AreFrames, WireHolds, fit_more, part_is}
 use Rattle.un_journal.specs.Fits.{Act, Fits, takes, refuses, waits_once, closes, begins_flight, cuts_queued, lands, fails, cuts_flight, comes_home, opens, gives, posts_one, marks, recalls_one, clears, settles, orders, orders_forced, Legal, begins, goes_on, after_took}
@@ -333,7 +334,7 @@ part_given params ds bytes k n s wire good w low high =
     found : slice_get frames (n - s.0) ≡ slice_get ds n
     found = slice_take (s.1 - s.0) (n - s.0) (drop s.0 ds) (omega arith) ∙ (slice_drop s.0 (n - s.0) ds ∙ ap (slice_get ds) place)
 
-formed_gave : (script : Script) (l l' : Lane) (k n : ℕ) (g : History) → WireHolds script.params → first (left_of g k) ≡ Some n → Formed script l g → Formed script l ((Gave l' n, datagram_bytes script g k n) ∷ g)
+formed_gave : (script : Script) (l l' : Lane) (k n : ℕ) (g : History) → WireHolds script.params → first (left_of g k) ≡ Some n → Formed script l g → Formed script l ((Gave l' n, datagram_bytes script.params g k n) ∷ g)
 formed_gave script l l' k n g wire e w = record {
   kept = record { good = w.kept.good; made_well = w.kept.made_well; gave_well = (go (span g k) refl e, w.kept.gave_well) };
   built_fit = w.built_fit;
@@ -450,7 +451,7 @@ step_formed script h lines act wire good w (comes_home lane e) l = one_formed sc
 step_formed script h lines act wire good w (opens lane k none e) l = one_formed script lane l _ h refl (λ i. refl) (w l)
 step_formed script h lines act wire good w (gives lane k n c e) l =
     lane_formed script lane l _ h (λ i. refl, tt)
-    (λ same. subst (λ i. Formed script i ((Gave lane n, datagram_bytes script (past lane h) k n) ∷ past i h)) (sym same) (formed_gave script lane lane k n (past lane h) wire e (w lane))) (w l)
+    (λ same. subst (λ i. Formed script i ((Gave lane n, datagram_bytes script.params (past lane h) k n) ∷ past i h)) (sym same) (formed_gave script lane lane k n (past lane h) wire e (w lane))) (w l)
 step_formed script h lines act wire good w (posts_one lane a r) l = one_formed script lane l _ h refl (λ i. refl) (w l)
 step_formed script h lines act wire good w (marks lane k s e) l = one_formed script lane l _ h refl (λ i. refl) (w l)
 step_formed script h lines act wire good w (recalls_one lane s e p) l = one_formed script lane l _ h refl (λ i. refl) (w l)

@@ -17,7 +17,8 @@ use Rattle.un_journal.specs.Lookup.{phase_of, phase_after, after_order, after_co
 use Rattle.un_journal.specs.Licence.{Cuts, Stops, IsCause, IsOrder, Licensed}
 use Rattle.un_journal.specs.History.{built, cover, taken}
 use Rattle.un_journal.specs.Lookup.{deferred, tx_home, rx_home}
-use Rattle.un_journal.specs.Step.{bare, made_if, cut_each, marked_each, recalled_each, dropped_built, order_lines}
+use Rattle.un_journal.specs.LaneSteps.{bare}
+use Rattle.un_journal.specs.Step.{made_if, cut_each, marked_each, recalled_each, dropped_built, order_lines}
 use Rattle.un_journal.specs.Fits.{Act, Fits, takes, refuses, waits_once, closes, begins_flight, cuts_queued, lands, fails, cuts_flight, comes_home, opens, gives, posts_one, marks, recalls_one, clears, settles, orders, orders_forced, Legal, begins, goes_on, after_took}
 use Rattle.un_journal.proofs.Lists.{same_lane_true}
 

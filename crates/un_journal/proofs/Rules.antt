@@ -18,7 +18,8 @@ use Rattle.un_journal.specs.Script.{Script, Frame, planned, tx_size, rx_size}
 use Rattle.un_journal.specs.History.{Entry, History, past, concerns, those, first, taken, made, cover, built, posted, flies, waits, mark, halted, told_if, current, left_of, is_empty}
 use Rattle.un_journal.specs.Lookup.{phase_of, phase_after, after_order, after_control, works, is_awake, is_asleep, is_stopping, is_leaving, controls_done, feed_head, built_frames, block_open, block_claims, span_after_took, tx_home, rx_home, offer_needs_home, tick_needs_home, pending, deferred, unmarked, is_deferring}
 use Rattle.un_journal.specs.Licence.{IsOrder}
-use Rattle.un_journal.specs.Step.{bare, made_if, cut_each, marked_each, recalled_each, dropped_built, order_lines, datagram_bytes, all_home}
+use Rattle.un_journal.specs.LaneSteps.{bare, datagram_bytes}
+use Rattle.un_journal.specs.Step.{made_if, cut_each, marked_each, recalled_each, dropped_built, order_lines, all_home}
 use Rattle.un_journal.specs.Fits.{Act, Fits, takes, refuses, waits_once, closes, begins_flight, cuts_queued, lands, fails, cuts_flight, comes_home, opens, gives, posts_one, marks, recalls_one, clears, settles, orders, orders_forced, Legal, begins, goes_on, after_took}
 use Rattle.un_journal.proofs.Lists.{same_lane_true, those_first}
 
@@ -109,7 +110,7 @@ pub record GaveRule (script : Script) (n : ℕ) (bytes : List ℕ) (g : History)
   pub serial : ℕ
   pub is_current : current g ≡ Some serial
   pub is_next : first (left_of g serial) ≡ Some n
-  pub is_part : bytes ≡ datagram_bytes script g serial n
+  pub is_part : bytes ≡ datagram_bytes script.params g serial n
 
 abbrev pub LaneRule : Script → Phase → Lane → Entry → History → Type 0
 LaneRule script phase l (Took l' s, bytes) g = TookRule script phase l l' s bytes g

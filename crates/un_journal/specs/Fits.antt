@@ -10,7 +10,8 @@ use Rattle.un_journal.specs.declared.controls.Due.{Due}
 use Rattle.un_journal.specs.Script.{Script, Frame, planned}
 use Rattle.un_journal.specs.History.{History, past, taken, cover, built, returned, posted, flying, flies, arrived, current, left_of, ended, halted, mark, first}
 use Rattle.un_journal.specs.Lookup.{phase_of, works, is_awake, is_asleep, is_stopping, is_leaving, controls_done, feed_head, span_after_took, tx_home, rx_home, offer_needs_home, tick_needs_home, pending, queued, unmarked}
-use Rattle.un_journal.specs.Step.{Work, Offer, Tick, Take, Land, TxDone, RxDone, Deliver, Refill, Unlink, ClearHalt, Settle, bare, made_if, made_entry, datagram_bytes, settled_line, all_home, order_lines, hinders, is_due, quiet, Outcome, work, control}
+use Rattle.un_journal.specs.LaneSteps.{bare, datagram_bytes, Outcome}
+use Rattle.un_journal.specs.Step.{Work, Offer, Tick, Take, Land, TxDone, RxDone, Deliver, Refill, Unlink, ClearHalt, Settle, made_if, made_entry, settled_line, all_home, order_lines, hinders, is_due, quiet, work, control}
 
 -- what a step is a step of
 pub data Act : Type 0 where
@@ -75,7 +76,7 @@ pub data Fits (script : Script) (h : History) : Act → History → Type 0 where
   gives : (lane : Lane) (k n : ℕ)
       → current (past lane h) ≡ Some k
       → first (left_of (past lane h) k) ≡ Some n
-      → Fits script h (Works (Deliver lane)) ((Line.Gave lane n, datagram_bytes script (past lane h) k n) ∷ [])
+      → Fits script h (Works (Deliver lane)) ((Line.Gave lane n, datagram_bytes script.params (past lane h) k n) ∷ [])
   posts_one : (lane : Lane)
       → is_awake (phase_of script h) ≡ true
       → 0 < rx_home script.params lane (past lane h)

@@ -10,7 +10,8 @@ use Rattle.un_journal.specs.Log.{HasReason, CarriesItsBytes}
 use Rattle.un_journal.specs.Script.{Script, frames_of, tx_size, rx_size}
 use Rattle.un_journal.specs.History.{Entry, History, past, taken, given, made, posts, returned, flies, flown, waits, ended, was_cut, row_from}
 use Rattle.un_journal.specs.Lookup.{datagrams, controls_done, tx_home, rx_home}
-use Rattle.un_journal.specs.Step.{Writes, lines_in, all_home, away, quiet}
+use Rattle.un_journal.specs.LaneSteps.{Writes, lines_in}
+use Rattle.un_journal.specs.Step.{all_home, away, quiet}
 use Rattle.un_journal.specs.Fits.{Act, Fits, Legal, IsDone, act_outcome}
 use Rattle.un_journal.specs.Drain.{run, drain, drain_in, line_bound}
 use Rattle.un_journal.specs.Places.{trues, places, IsRising, IsAllBelow}
