@@ -1,4 +1,5 @@
--- The table of steps: which lines may be one step after a history. One rule for each row: what it needs, and the lines.
+-- The table of steps: which lines may be one step after a history. One rule for each row: what it needs, and the lines. Legal
+-- histories are those that these steps leave. The rows are this project's own.
 use Rattle.std.specs.Prelude.{◌≡◌, ◌≢◌, ◌<◌, ℕ, ◌-◌, Bool, true, false, [], ◌∷◌, ◌++◌, reverse, Some, None, slice_get, ◌||◌}
 use Rattle.un_frame.specs.declared.params.Lane.{Lane}
 use Rattle.un_frame.specs.declared.params.Lane.TheVariants.{Outward, Inward}
@@ -22,6 +23,7 @@ pub data Act : Type 0 where
 abbrev pub after_took : Lane → ℕ → History → History
 after_took lane sender g = bare (Line.Took lane sender) ∷ g
 
+-- the rows, by act: offer, tick, take, land, the done list, the receiving end, stops, controls
 pub data Fits (script : Script) (h : History) : Act → History → Type 0 where
   takes : (lane : Lane) (sender : ℕ) (frame : Frame)
       → works (phase_of script h) ≡ true
