@@ -18,14 +18,14 @@ use Rattle.un_journal.specs.LaneSteps.{Outcome, lines_in}
 use Rattle.un_journal.specs.Step.{Work, work, is_still, lane_works, quiet, control_head}
 use Rattle.un_journal.specs.Drain.{drain}
 use Rattle.un_journal.proofs.Ranges.{HavePools}
-use Rattle.un_journal.specs.Done.{IsFinished, is_gone}
+use Rattle.un_journal.specs.Done.{IsFinished, is_gone, NoneFlies}
 use Rattle.un_journal.specs.Unplug.{AwaitsUnplug, IsSettledAway, is_settled_last, IsPrefix}
 use Rattle.un_journal.specs.Fits.{Act, Works, Controls, Fits, Legal, IsDone, act_outcome}
 use Rattle.un_journal.proofs.Legal.{none_flies, empty_is}
 use Rattle.un_journal.proofs.Steps.{legal_good}
 use Rattle.un_journal.proofs.Rules.{AllRuled, legal_ruled, onto, past_onto}
 use Rattle.un_journal.proofs.Finished.{done_finished, is_quiet}
-use Rattle.un_journal.proofs.Drained.{Grounded, no_fit, sends_head, land_idle, drain_done, Extends, four_feeds}
+use Rattle.un_journal.proofs.Drained.{no_fit, sends_head, land_idle, drain_done, Extends, four_feeds}
 
 -- FINISHED
 
@@ -45,7 +45,7 @@ module _ (script : Script) (h : History) (legal : Legal script h) (q : quiet scr
   parts : ((is_empty (flying (past Outward h)) && is_empty (flying (past Inward h))) ≡ true) × (list_all (λ w. is_still (work script h w)) (lane_works Outward ++ lane_works Inward ++ Work.Settle ∷ []) ≡ true)
   parts = and_parts (is_empty (flying (past Outward h)) && is_empty (flying (past Inward h))) _ q
 
-  grounded : Grounded h
+  grounded : NoneFlies h
   grounded Outward k = none_flies (past Outward h) ((legal_good script h legal).sound Outward) (empty_is _ (and_parts (is_empty (flying (past Outward h))) _ parts.0).0) k
   grounded Inward k = none_flies (past Inward h) ((legal_good script h legal).sound Inward) (empty_is _ (and_parts (is_empty (flying (past Outward h))) _ parts.0).1) k
 

@@ -28,6 +28,7 @@ pub mod Room
 pub mod Landing
 pub mod Counts
 pub mod Spelled
+pub mod LinkFacts
 pub mod Examples
 pub mod Entries
 pub mod Hexes
