@@ -23,7 +23,8 @@ use Rattle.un_journal.specs.Unplug.{AwaitsUnplug, IsSettledAway, is_settled_last
 use Rattle.un_journal.specs.Fits.{Act, Works, Controls, Fits, Legal, IsDone, act_outcome}
 use Rattle.un_journal.proofs.Legal.{none_flies, empty_is}
 use Rattle.un_journal.proofs.Steps.{legal_good}
-use Rattle.un_journal.proofs.Rules.{AllRuled, legal_ruled, onto, past_onto}
+use Rattle.un_journal.proofs.Onto.{onto, past_onto}
+use Rattle.un_journal.proofs.Rules.{AllRuled, legal_ruled}
 use Rattle.un_journal.proofs.Finished.{done_finished, is_quiet}
 use Rattle.un_journal.proofs.Drained.{no_fit, sends_head, land_idle, drain_done, Extends, four_feeds}
 

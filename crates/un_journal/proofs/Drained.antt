@@ -12,16 +12,16 @@ use Rattle.un_journal.specs.Script.{Script, feeds_of, planned}
 use Rattle.un_journal.specs.History.{Entry, History, past, concerns, made, flies, flying, mark}
 use Rattle.un_journal.specs.Lookup.{phase_of, controls_done}
 use Rattle.un_journal.specs.LaneSteps.{Outcome, Writes, Answers, lines_in, bare, land_marked}
-use Rattle.un_journal.specs.Step.{Work, work, move_after, step_of, order_lines, land_from, land_flight}
+use Rattle.un_journal.specs.Step.{Work, work, move_after, step_of, land_from, land_flight, made_if}
 use Rattle.un_journal.specs.Drain.{run, round, drain_in, drain, same_length, line_bound}
 use Rattle.un_journal.specs.Done.{NoneFlies}
 use Rattle.un_journal.specs.Fits.{Act, Works, Controls, Fits, takes, refuses, waits_once, closes, begins_flight, cuts_queued, lands, fails, cuts_flight, comes_home, opens, gives, posts_one, marks, recalls_one, clears, settles, orders, orders_forced, Legal, IsDone, act_outcome, after_took}
-use Rattle.un_journal.proofs.Steps.{legal_good}
-use Rattle.un_journal.proofs.Unique.{fits_outcome, those_empty_below}
+use Rattle.un_journal.proofs.Steps.{legal_good, ArePlain, is_plain, order_plain}
+use Rattle.un_journal.proofs.Unique.{fits_outcome, those_empty_below, Cons}
 use Rattle.un_journal.proofs.Complete.{outcome_fits}
 use Rattle.un_journal.proofs.Going.{legal_run, legal_step, legal_drain_in}
 use Rattle.un_journal.proofs.Bound.{legal_bound, head_within}
-use Rattle.un_journal.proofs.Rules.{onto, reverse_onto, past_onto, filter_of}
+use Rattle.un_journal.proofs.Onto.{onto, reverse_onto, past_onto, filter_of}
 use Rattle.un_journal.proofs.Steps.{own_past, same_lane_same}
 use Rattle.un_journal.proofs.Unique.{those_first_is, cons_from}
 use Rattle.un_journal.proofs.Legal.{next_from, queued_waiting}
@@ -198,15 +198,15 @@ lines_grounded l (e ∷ es) older n k w = lines_grounded l es (e ∷ older) n.1 
 grounded_more : (h lines : History) → NoFlights lines → NoneFlies h → NoneFlies (h ++ lines)
 grounded_more h lines n w l k = subst (λ r. flies (filter (concerns l) r) k ≡ false) (sym (reverse_onto lines h)) (lines_grounded l lines (reverse h) n k (w l k))
 
-plain_no_flight : (e : Entry) → Rattle.un_journal.proofs.Steps.is_plain e ≡ true → is_no_flight e ≡ true
+plain_no_flight : (e : Entry) → is_plain e ≡ true → is_no_flight e ≡ true
 plain_no_flight (Flying l k, bytes) p = p
 plain_no_flight (e, bytes) p = refl
 
-plain_no_flights : (lines : History) → Rattle.un_journal.proofs.Steps.ArePlain lines → NoFlights lines
+plain_no_flights : (lines : History) → ArePlain lines → NoFlights lines
 plain_no_flights [] p = tt
 plain_no_flights (e ∷ es) p = (plain_no_flight e p.0, plain_no_flights es p.1)
 
-made_no_flights : (script : Script) (lane : Lane) (g : History) (closed : Option (ℕ × ℕ)) → NoFlights (Rattle.un_journal.specs.Step.made_if script lane g closed)
+made_no_flights : (script : Script) (lane : Lane) (g : History) (closed : Option (ℕ × ℕ)) → NoFlights (made_if script lane g closed)
 made_no_flights script lane g None = tt
 made_no_flights script lane g (Some s) = (refl, tt)
 
@@ -233,8 +233,8 @@ act_grounded script h lines act t (marks lane k s e) = (refl, tt)
 act_grounded script h lines act t (recalls_one lane s e p) = (refl, tt)
 act_grounded script h lines act t (clears lane a e) = (refl, tt)
 act_grounded script h lines act t (settles s e) = (refl, tt)
-act_grounded script h lines act t (orders force due e p d z) = (refl, plain_no_flights _ (Rattle.un_journal.proofs.Steps.order_plain due.control (controls_done (reverse h)) (phase_of script h) (past Outward h) (past Inward h)))
-act_grounded script h lines act t (orders_forced due e p d q z) = (refl, plain_no_flights _ (Rattle.un_journal.proofs.Steps.order_plain due.control (controls_done (reverse h)) (phase_of script h) (past Outward h) (past Inward h)))
+act_grounded script h lines act t (orders force due e p d z) = (refl, plain_no_flights _ (order_plain due.control (controls_done (reverse h)) (phase_of script h) (past Outward h) (past Inward h)))
+act_grounded script h lines act t (orders_forced due e p d q z) = (refl, plain_no_flights _ (order_plain due.control (controls_done (reverse h)) (phase_of script h) (past Outward h) (past Inward h)))
 
 outcome_grounded : (script : Script) (h : History) (act : Act) (o : Outcome) → is_taking act ≡ false → act_outcome script h act ≡ o → NoneFlies h → NoneFlies (h ++ lines_in o)
 outcome_grounded script h act (Writes xs) t e w = grounded_more h xs (act_grounded script h xs act t (outcome_fits script h xs act e)) w
@@ -292,7 +292,7 @@ landing_line script h l k low w =
     test : ℕ → Bool
     test j = k == j || flies (past l h) j
 
-    c : Rattle.un_journal.proofs.Unique.Cons (flying (bare (Flying l k) ∷ past l h)) k
+    c : Cons (flying (bare (Flying l k) ∷ past l h)) k
     c = cons_from (flying (bare (Flying l k) ∷ past l h)) k
         (those_first_is test (made (past l h)) k (rw (eq-eqb k k refl) refl) low (λ j h'. rw (ne_eqb k j (λ e. omega arith)) (w l j)))
 

@@ -12,6 +12,7 @@ pub mod Going
 pub mod Delivery
 pub mod Licences
 pub mod BaseWords
+pub mod Onto
 pub mod Rules
 pub mod Homes
 pub mod Calm

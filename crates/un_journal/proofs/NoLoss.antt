@@ -23,7 +23,7 @@ use Rattle.un_journal.specs.Done.{IsFinished, IsSpread}
 use Rattle.un_journal.specs.Loss.{LosesNothing, is_take, accepted, good_frames}
 use Rattle.un_journal.specs.Fits.{IsDone}
 use Rattle.un_journal.proofs.Given.{given_rises, given_taken}
-use Rattle.un_journal.proofs.Steps.{legal_good}
+use Rattle.un_journal.proofs.Steps.{legal_good, Good}
 use Rattle.un_journal.proofs.Licences.{AllLicensed, legal_licensed}
 use Rattle.un_journal.proofs.Rules.{AllRuled, legal_ruled}
 use Rattle.un_journal.proofs.Homes.{AllLane, lane_ruled}
@@ -261,7 +261,7 @@ nothing_lost script h pools w d l = record {
       ∙ ap (good_frames script.params l) (take_all (consumed (past l h) sender) (frames_of script l sender) (f.consumed_up up l sender));
 }
   where
-    good : Rattle.un_journal.proofs.Steps.Good script h
+    good : Good script h
     good = legal_good script h d.is_legal
 
     ruled : AllRuled script (reverse h)

@@ -18,7 +18,8 @@ use Rattle.un_journal.specs.Fits.{Legal}
 use Rattle.un_journal.proofs.Given.{front, in_front, next_above, cover_below}
 use Rattle.un_journal.proofs.Legal.{empty_is}
 use Rattle.un_journal.proofs.Steps.{legal_good}
-use Rattle.un_journal.proofs.Rules.{AllRuled, legal_ruled, onto, reverse_onto}
+use Rattle.un_journal.proofs.Onto.{onto, reverse_onto}
+use Rattle.un_journal.proofs.Rules.{AllRuled, legal_ruled}
 use Rattle.un_journal.proofs.Homes.{AllLane, lane_ruled}
 use Rattle.un_journal.proofs.Bound.{total, head_within}
 use Rattle.un_journal.proofs.Formed.{count_datagrams, frames_more, frames_within, frames_taken, good_length, legal_formed}

@@ -23,7 +23,8 @@ use Rattle.un_journal.specs.Licence.{Licensed, AreSizes}
 use Rattle.un_journal.proofs.Transfers.{AreFrames, WireHolds}
 use Rattle.un_journal.proofs.Legal.{empty_is}
 use Rattle.un_journal.proofs.Steps.{legal_good, same_lane_same}
-use Rattle.un_journal.proofs.Rules.{Rule, AllRuled, legal_ruled, onto, reverse_onto, past_onto}
+use Rattle.un_journal.proofs.Onto.{onto, reverse_onto, past_onto}
+use Rattle.un_journal.proofs.Rules.{Rule, AllRuled, legal_ruled}
 use Rattle.un_journal.proofs.Homes.{AllLane, lane_ruled}
 use Rattle.un_journal.proofs.Licences.{AllLicensed, legal_licensed}
 use Rattle.un_journal.proofs.Room.{lane_frames}
