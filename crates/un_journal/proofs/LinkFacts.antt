@@ -1,5 +1,5 @@
 -- What a link takes from the laws: room for each step, its drain's loop, how long a lane's lines are, prefixes of one history.
-use Rattle.std.proofs.Common.{◌≡◌, suc, ◌+◌, ◌≤◌, Bool, true, false, [], ◌∷◌, ◌++◌, length, refl, sym, ap, ◌∙◌, subst, arith, if◌then◌else◌, filter, reverse, length-append, append-nil}
+use Rattle.std.proofs.Common.{◌&&◌, List, ◌≡◌, suc, ◌+◌, ◌≤◌, Bool, true, false, [], ◌∷◌, ◌++◌, length, refl, sym, ap, ◌∙◌, subst, arith, if◌then◌else◌, filter, reverse, length-append, append-nil}
 use Rattle.std.proofs.lemmas.Bool.{false≢true}
 use Rattle.std.proofs.lemmas.List.{length-reverse}
 use Rattle.un_frame.specs.declared.params.Lane.{Lane}
@@ -8,10 +8,13 @@ use Rattle.un_journal.specs.declared.lines.Line.{Line}
 use Rattle.un_journal.specs.declared.lines.Line.TheVariants.{Took, Made}
 use Rattle.un_journal.specs.declared.actions.Action.{Action}
 use Rattle.un_journal.specs.Script.{Script}
-use Rattle.un_journal.specs.History.{Entry, History, past, concerns, taken, made}
+use Rattle.un_journal.specs.History.{Entry, History, past, concerns, taken, made, flying, is_empty}
 use Rattle.un_journal.specs.Lookup.{controls_done}
 use Rattle.un_journal.specs.LaneSteps.{lines_in}
-use Rattle.un_journal.specs.Step.{step_of}
+use Rattle.un_journal.specs.Step.{Work, work, step_of, is_still, offers, other_works, lane_works, quiet}
+use Rattle.std.specs.List.{list_all}
+use Rattle.std.proofs.lemmas.List.Folds.{list_all-append}
+use Rattle.un_frame.specs.declared.params.Lane.TheVariants.{Outward, Inward}
 use Rattle.un_journal.specs.Fits.{Act, Legal, IsDone, act_outcome}
 use Rattle.un_journal.specs.Drain.{run, round, drain, drain_in, same_length, line_bound}
 use Rattle.un_journal.specs.Bytes.{bytes_in, byte_bound}
@@ -49,6 +52,67 @@ pub step_has_byte_room : (script : Script) (h : History) (action : Action) → A
 step_has_byte_room script h action ranges agree legal =
     let e : bytes_in (h ++ step_of script h action) ≡ bytes_in h + bytes_in (step_of script h action) = bytes_append h (step_of script h action) in
     let b : bytes_in (h ++ step_of script h action) ≤ byte_bound script = legal_room script _ (wire_holds script.params ranges agree) (legal_step script h action legal) in omega arith
+
+-- QUIET
+
+-- whether nothing flies in the lane and none of its work but an offer would write lines, and whether no offer would
+abbrev pub lane_still : Script → History → Lane → Bool
+lane_still script h lane = is_empty (flying (past lane h)) && list_all (λ w. is_still (work script h w)) (other_works lane)
+
+abbrev pub offers_still : Script → History → Lane → Bool
+offers_still script h lane = list_all (λ w. is_still (work script h w)) (offers lane)
+
+same_parts : (fo fi oo so oi si st : Bool) → ((fo && fi) && ((oo && so) && ((oi && si) && st))) ≡ (((fo && so) && (fi && si)) && ((oo && oi) && st))
+same_parts false fi oo so oi si st = refl
+same_parts true fi oo false oi si st = left fi oo
+  where
+    left : (a b : Bool) → (a && ((b && false) && ((oi && si) && st))) ≡ false
+    left false b = refl
+    left true false = refl
+    left true true = refl
+same_parts true false oo true oi si st = refl
+same_parts true true false true oi si st = right si
+  where
+    right : (a : Bool) → false ≡ (a && false)
+    right false = refl
+    right true = refl
+same_parts true true true true oi false st = none oi
+  where
+    none : (a : Bool) → ((a && false) && st) ≡ false
+    none false = refl
+    none true = refl
+same_parts true true true true false true st = refl
+same_parts true true true true true true st = refl
+
+and_assoc : (x y z : Bool) → ((x && y) && z) ≡ (x && (y && z))
+and_assoc true y z = refl
+and_assoc false y z = refl
+
+split_lists : (p : Work → Bool) (a b c d e : List Work) → list_all p (((a ++ b) ++ (c ++ d)) ++ e) ≡ ((list_all p a && list_all p b) && ((list_all p c && list_all p d) && list_all p e))
+split_lists p a b c d e =
+    list_all-append p ((a ++ b) ++ (c ++ d)) e
+    ∙ (ap (λ i. i && list_all p e) (list_all-append p (a ++ b) (c ++ d) ∙ (ap (λ i. i && list_all p (c ++ d)) (list_all-append p a b) ∙ ap (λ i. (list_all p a && list_all p b) && i) (list_all-append p c d)))
+    ∙ and_assoc (list_all p a && list_all p b) (list_all p c && list_all p d) (list_all p e))
+
+one_all : (p : Work → Bool) (w : Work) → list_all p (w ∷ []) ≡ p w
+one_all p w = go (p w)
+  where
+    go : (b : Bool) → (b && true) ≡ b
+    go true = refl
+    go false = refl
+
+-- a link is quiet where both lanes are still, no offer would write lines, and no stop would settle
+pub quiet_parts : (script : Script) (h : History)
+    → quiet script h ≡ ((lane_still script h Outward && lane_still script h Inward) && ((offers_still script h Outward && offers_still script h Inward) && is_still (work script h Work.Settle)))
+quiet_parts script h = ap (λ b. (is_empty (flying (past Outward h)) && is_empty (flying (past Inward h))) && b) split
+    ∙ same_parts (is_empty (flying (past Outward h))) (is_empty (flying (past Inward h))) (offers_still script h Outward) (list_all test (other_works Outward)) (offers_still script h Inward) (list_all test (other_works Inward)) (test Work.Settle)
+  where
+    test : Work → Bool
+    test w = is_still (work script h w)
+
+    split : list_all test (lane_works Outward ++ lane_works Inward ++ Work.Settle ∷ []) ≡ ((list_all test (offers Outward) && list_all test (other_works Outward)) && ((list_all test (offers Inward) && list_all test (other_works Inward)) && test Work.Settle))
+    split = split_lists test (offers Outward) (other_works Outward) (offers Inward) (other_works Inward) (Work.Settle ∷ [])
+        ∙ ap (λ b. (list_all test (offers Outward) && list_all test (other_works Outward)) && ((list_all test (offers Inward) && list_all test (other_works Inward)) && b)) (one_all test Work.Settle)
 
 -- THE LOOP OF THE DRAIN
 

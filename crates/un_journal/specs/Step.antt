@@ -128,10 +128,16 @@ work script h Settle = settle script h
 
 -- CONTROLS
 
+-- the offers of a lane, and its other work; a landing is left out, since it fits only where something flies
+abbrev pub offers : Lane → List Work
+offers lane = Offer lane 0 ∷ Offer lane 1 ∷ Offer lane 2 ∷ Offer lane 3 ∷ []
+
+abbrev pub other_works : Lane → List Work
+other_works lane =
+    Tick lane ∷ Take lane ∷ TxDone lane ∷ RxDone lane ∷ Deliver lane ∷ Refill lane ∷ Unlink lane ∷ ClearHalt lane ∷ []
+
 abbrev pub lane_works : Lane → List Work
-lane_works lane =
-    Offer lane 0 ∷ Offer lane 1 ∷ Offer lane 2 ∷ Offer lane 3 ∷ Tick lane ∷ Take lane ∷ TxDone lane ∷ RxDone lane
-    ∷ Deliver lane ∷ Refill lane ∷ Unlink lane ∷ ClearHalt lane ∷ []
+lane_works lane = offers lane ++ other_works lane
 
 abbrev pub is_still : Outcome → Bool
 is_still (Writes lines) = false
