@@ -29,6 +29,7 @@ pub mod Room
 pub mod Landing
 pub mod Counts
 pub mod Spelled
+pub mod LaneFacts
 pub mod LinkFacts
 pub mod Examples
 pub mod Entries
