@@ -1,4 +1,5 @@
-//! Parameters of a link, the verdict on a frame, and the faults of a transfer.
+//! The base of the project: the parameters of a link, the verdict on a frame, the faults of a transfer, and every
+//! definition of bytes on the bus with its laws (specs/, docs/DEFINITIONS.md).
 #![tactic(auto)]
 
 mod bytes;

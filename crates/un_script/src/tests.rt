@@ -56,3 +56,25 @@ fn refuses_other_texts(rt: HostRuntime) {
         assert_eq!(rt; refused_line(rt.alloc(), text), Some(line));
     }
 }
+
+#[test]
+#[tactic(auto, using(crate::proofs::Ranges::defaults_in_range), unfolding(crate::specs::Parts::standing_from))]
+fn adds_each_part(rt: HostRuntime) -> Result<(), Fail> {
+    let alloc = rt.alloc();
+    let mut script = Script::make(alloc, defaults(Class::Ecm));
+    script.add_frame(Lane::Inward, 3, Bytes::make(vec![in alloc; 7; 2]?))?;
+    script.add_fault(Lane::Inward, 5, FaultKind::Halt)?;
+    let suspend = Due {
+        lane: Lane::Outward,
+        want: 1,
+        control: Control::Suspend,
+    };
+    script.add_control(suspend)?;
+    assert!(rt; script.frame(Lane::Inward, 3, 0) == Some([7, 7].as_slice()));
+    assert!(rt; script.fault(Lane::Inward, 5) == Some(FaultKind::Halt));
+    assert!(rt; script.fault(Lane::Outward, 5).is_none());
+    assert!(rt; script.control(0) == Some(suspend));
+    assert!(rt; script.control(1).is_none());
+    assert_eq!(rt; script.frame_count(), 1);
+    Ok(())
+}

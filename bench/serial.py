@@ -1,0 +1,60 @@
+#!/usr/bin/env python3
+"""Times `usbnet serial` on large scripts beside a plain hex round trip of the same bytes.
+
+Needs the proved build (./usbnet --build) and coreutils' basenc. Prints, for each script, its size, the best of five times of the
+program and of the round trip (digits to bytes and back to digits), and the program's peak memory.
+"""
+import os
+import subprocess
+import sys
+import tempfile
+import time
+
+TOP = os.path.dirname(os.path.dirname(os.path.abspath(__file__)))
+BINARY = os.path.join(TOP, "crates", "usbnet_run", "out", "usbnet_run")
+HEADER = "0200000000020200000000010800"
+SCRIPTS = [
+    ("1,024 frames of 60 bytes", 1024, 60),
+    ("8,192 frames of 60 bytes", 8192, 60),
+    ("65,536 frames of 60 bytes", 65536, 60),
+    ("5,527 frames of 1,514 bytes", 5527, 1514),
+]
+
+
+def run(words, source, sink):
+    """The seconds and the peak memory in KiB of one run."""
+    with open(source, "rb") as given, open(sink, "wb") as taken:
+        begin = time.perf_counter()
+        child = subprocess.Popen(words, stdin=given, stdout=taken)
+        _, status, usage = os.wait4(child.pid, 0)
+        spent = time.perf_counter() - begin
+    child.returncode = os.waitstatus_to_exitcode(status)
+    if child.returncode != 0:
+        sys.exit(f"{words} ended with {child.returncode}")
+    return spent, usage.ru_maxrss
+
+
+def best(words, source, sink):
+    runs = [run(words, source, sink) for _ in range(5)]
+    return min(spent for spent, _ in runs), max(peak for _, peak in runs)
+
+
+def main():
+    if not os.access(BINARY, os.X_OK):
+        sys.exit("no proved build: run ./usbnet --build first")
+    with tempfile.TemporaryDirectory() as room:
+        script, digits, trace = (os.path.join(room, name) for name in ("script", "digits", "trace"))
+        for name, count, length in SCRIPTS:
+            frame = HEADER + "00" * (length - 14)
+            with open(script, "w") as out:
+                out.write("class ecm\n" + f"out 0 {frame}\n" * count)
+            with open(digits, "w") as out:
+                out.write(frame.upper() * count)
+            spent, peak = best([BINARY, "serial"], script, trace)
+            plain, _ = best(["sh", "-c", "basenc --base16 -d | basenc --base16 -w0"], digits, os.devnull)
+            size = os.path.getsize(script)
+            print(f"{name}: {size:,} bytes in, {os.path.getsize(trace):,} out; serial {spent * 1000:.0f} ms, {peak / 1024:.0f} MB; hex round trip {plain * 1000:.0f} ms")
+
+
+if __name__ == "__main__":
+    main()
