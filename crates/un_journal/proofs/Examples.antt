@@ -19,7 +19,8 @@ use Rattle.un_journal.specs.declared.actions.Answer.{Answer}
 use Rattle.un_journal.specs.Script.{Script, Feeds, Frame}
 use Rattle.un_journal.specs.History.{History, Entry, past, taken, given}
 use Rattle.un_journal.specs.Lookup.{phase_of}
-use Rattle.un_journal.specs.Step.{bare, Outcome, lines_in, answer_in, Work, work, outcome, answer_of}
+use Rattle.un_journal.specs.LaneSteps.{bare, Outcome, lines_in, answer_in}
+use Rattle.un_journal.specs.Step.{Work, work, outcome, answer_of}
 use Rattle.un_journal.specs.Drain.{drain}
 
 -- FRAMES, SCRIPTS, CALLS

@@ -1,4 +1,4 @@
--- What holds of a history after which no step fits.
+-- What holds of a history after which no step fits (this project's own).
 use Rattle.std.specs.Prelude.{◌≡◌, ◌<◌, ℕ, Bool, true, false, ◌||◌, reverse, length, Some, None}
 use Rattle.un_frame.specs.declared.params.Lane.{Lane}
 use Rattle.un_frame.specs.declared.kinds.Phase.{Phase}
@@ -14,6 +14,10 @@ abbrev pub is_gone : Phase → Bool
 is_gone Down = true
 is_gone Away = true
 is_gone _ = false
+
+-- nothing flies in either lane
+abbrev pub NoneFlies : History → Type 0
+NoneFlies h = (lane : Lane) (k : ℕ) → flies (past lane h) k ≡ false
 
 -- every datagram is at the peer or lost
 abbrev pub IsSpread : History → Type 0
@@ -31,7 +35,7 @@ pub record IsStuck (script : Script) (lane : Lane) (sender : ℕ) (frame : Frame
 
 pub record IsFinished (script : Script) (h : History) : Type 0 where
   pub all_ordered : controls_done (reverse h) ≡ length script.controls
-  pub none_flies : (lane : Lane) (k : ℕ) → flies (past lane h) k ≡ false
+  pub none_flies : NoneFlies h
   pub is_settled : (is_stopping (phase_of script h) || is_leaving (phase_of script h)) ≡ false
   pub given_out : (lane : Lane) → IsGivenOut (past lane h)
   -- up
