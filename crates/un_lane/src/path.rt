@@ -12,7 +12,7 @@ use crate::request::{Free, Held};
 use std::alloc::{AllocError, Global};
 use std::collections::VecDeque;
 use std::marker::Model;
-use un_frame::{Lane, Params};
+use un_frame::{Lane, Params, Verdict, verdict};
 use un_journal::{Answer, Journal, Line};
 
 /// A path is one lane of a link in which each frame becomes a transfer of its own (Ethernet Control Model, CDC ECM 1.2, section
@@ -245,6 +245,13 @@ impl Path {
         ensures { EachIsPlaced self.now }
     {
         let _lane = &self.lane;
+    }
+
+    /// What becomes of a frame that is offered to this path.
+    pub fn verdict(&self, frame: &[u8]) -> Verdict
+        ensures { result ≡ verdict_of self.now.params self.now.lane frame.now }
+    {
+        verdict(&self.params, self.lane, frame)
     }
 }
 

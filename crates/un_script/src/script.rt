@@ -1,9 +1,9 @@
 //! What a script says.
 
-ghost use Rattle.std.specs.Prelude.{◌≡◌, ◌<◌, ◌≤◌, ◌∷◌, ◌++◌, [], None, Some, length, OnOk, OnErr, IsTrue, MatchOption, slice_get};
+ghost use Rattle.std.specs.Prelude.{◌≡◌, ◌<◌, ◌≤◌, ◌∷◌, ◌++◌, [], None, Some, length, OnOk, OnErr, IsTrue, MatchOption, slice_get, unwrap_or};
 ghost use Rattle.un_frame.specs.Lanes.{same_lane};
 ghost use Rattle.un_frame.specs.Params.{AreInRange};
-ghost use Rattle.un_journal.specs.Script.{planned, planned_in, frames_of, frames_in};
+ghost use Rattle.un_journal.specs.Script.{planned, planned_in, frames_of, feed_list};
 ghost use Rattle.un_script.specs.Parts.{empty_script, no_frames, frame_added, with_frame, frame_count, standing_of, may_come};
 ghost use Rattle.un_script.specs.Table.{is_sender, is_want, is_planned_serial, MOST_FRAMES, MOST_CONTROLS, MOST_FAULTS};
 
@@ -57,7 +57,7 @@ impl Senders {
     }
 
     fn frame(&self, sender: u32, index: u64) -> Option<&[u8]>
-        ensures { MatchOption result (slice_get (frames_in self.now sender) index ≡ None) (λ f. slice_get (frames_in self.now sender) index ≡ Some f.now) }
+        ensures { MatchOption result (slice_get (unwrap_or (slice_get (feed_list self.now) sender) []) index ≡ None) (λ f. slice_get (unwrap_or (slice_get (feed_list self.now) sender) []) index ≡ Some f.now) }
     {
         match sender {
             0 => nth(&self.first, index),
