@@ -1,0 +1,10 @@
+//! Transfers of the Ethernet Emulation Model (CDC EEM 1.0): packets with frames and commands, read and written.
+#![tactic(auto)]
+
+mod checks;
+mod header;
+mod items;
+mod writer;
+
+pub use items::{Item, Items, read};
+pub use writer::{append, finish};

@@ -1,0 +1,4 @@
+pub mod Cursor
+pub mod Datagrams
+pub mod Formats
+pub mod Writer

@@ -1,0 +1,27 @@
+//! Blocks of NCM with fields of 32 bits (NTB32; NCM 1.0, 3.2.2 and 3.3.2). The logic is un_ntb's, at indices of 4 bytes.
+#![tactic(auto)]
+
+#[cfg(test)]
+mod tests;
+
+ghost use Rattle.std.specs.Prelude.{◌≡◌, IfOk};
+ghost use Rattle.un_frame.specs.Fault.{fault_in};
+ghost use Rattle.un_frame.specs.Wire.{Reads, fault_of};
+ghost use Rattle.un_frame.specs.declared.params.Class.TheVariants.{Ncm32};
+
+use un_frame::Fault;
+
+/// Builds blocks in requests, in place. The largest block has 2,048 to 262,144 bytes.
+pub type Writer = un_ntb::Writer<4>;
+
+/// The datagrams of a block that are left, lent from the bytes that were read.
+pub type Parts<'a> = un_ntb::Parts<'a, 4>;
+
+/// Reads a transfer as a block: its datagrams, exactly where the grammar reads it, or else the first fault with its
+/// place.
+pub fn read(bytes: &[u8]) -> Result<Parts<'_>, Fault>
+    ensures found { IfOk result (λ parts. Reads Ncm32 bytes.now parts 0) }
+    ensures fault { fault_in result ≡ fault_of Ncm32 bytes.now }
+{
+    un_ntb::read::<4>(bytes)
+}
