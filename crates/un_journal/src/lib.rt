@@ -11,6 +11,7 @@ mod laws;
 mod lines;
 #[cfg(test)]
 mod tests;
+mod texts;
 mod writer;
 
 pub use actions::{Action, Answer};
@@ -25,4 +26,5 @@ pub use laws::{
     settled_is_home, steps_stay_legal, table_is_computed,
 };
 pub use lines::Line;
+pub use texts::{entries_are_read, histories_are_read};
 pub use writer::{put, reserve, write_hex, write_trace};
