@@ -48,4 +48,4 @@ returns-clause-left g c =
     let grown = appended f (format_writable g.row.WIDTH) (format_small g.row.WIDTH) g.row.WIDTH c.self.inside c.self.invariant c.args.request.now.bytes frames c.args.frame.now here in
     let bytes = ap (λ (r : Buffer). r.bytes) (rw c.place-at.ensures.place at c.push_datagram.ensures) ∙ grown in
     let sizes : map size_of c.push_reserved.new.self.items ≡ sizes_in c.self.inside ++ length c.args.frame.now ∷ [] = ap (map size_of) c.push_reserved.ensures.items ∙ sizes-append c.self.inside.datagrams.items _ in
-    rw (← c.self.view_is, sizes) (open_more f (layout_in c.self.inside) (sizes_in c.self.inside) c.push_datagram.new.request.bytes frames c.args.frame.now here.lengths bytes)
+    rw sizes (open_more f (layout_in c.self.inside) (sizes_in c.self.inside) c.push_datagram.new.request.bytes frames c.args.frame.now here.lengths bytes)
