@@ -191,7 +191,7 @@ sleep_between = record {
   faults = [];
 }
 
--- the outward lines of queueing and flying from the resume on
+-- the outward lines of making and flying
 abbrev queueing : List Line → List Line
 queueing [] = []
 queueing (Line.Made Outward k a b ∷ ls) = Line.Made Outward k a b ∷ queueing ls
@@ -222,6 +222,9 @@ sleep_between_busy = refl
 
 sleep_between_given : given (past Outward (drain sleep_between [])) ≡ 0 ∷ 1 ∷ 2 ∷ 3 ∷ 4 ∷ 5 ∷ []
 sleep_between_given = refl
+
+sleep_between_taken : taken (past Outward (drain sleep_between [])) ≡ 6
+sleep_between_taken = refl
 
 -- A HALT
 
@@ -272,6 +275,10 @@ stopped_in_flight_lines : from_did (lines_of stopped_in_flight_calls.history)
     ∷ Line.Control 1 false ∷ Line.Posted Outward ∷ Line.Took Outward 0 ∷ Line.Made Outward 1 1 2 ∷ Line.Flying Outward 1 ∷ Line.Landed Outward 1
     ∷ Line.TxHome Outward 1 ∷ Line.Opened Outward 1 ∷ Line.Gave Outward 1 ∷ []
 stopped_in_flight_lines = refl
+
+stopped_in_flight_given : given_in stopped_in_flight_calls.history ≡ frame_of 60 ∷ []
+unfolding datagram_of
+stopped_in_flight_given = refl
 
 -- AN UNPLUG WITH ALL KINDS OF WORK OUT
 

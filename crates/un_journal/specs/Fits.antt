@@ -1,6 +1,6 @@
 -- The table of steps: which lines may be one step after a history. One rule for each row: what it needs, and the lines. Legal
 -- histories are those that these steps leave. The rows are this project's own.
-use Rattle.std.specs.Prelude.{◌≡◌, ◌≢◌, ◌<◌, ℕ, ◌-◌, Bool, true, false, [], ◌∷◌, ◌++◌, reverse, Some, None, slice_get, ◌||◌}
+use Rattle.std.specs.Prelude.{◌≡◌, ◌≢◌, ◌<◌, ℕ, ◌-◌, Bool, true, false, [], ◌∷◌, ◌++◌, reverse, Option, Some, None, slice_get, ◌||◌}
 use Rattle.un_frame.specs.declared.params.Lane.{Lane}
 use Rattle.un_frame.specs.declared.params.Lane.TheVariants.{Outward, Inward}
 use Rattle.un_frame.specs.declared.kinds.Verdict.{Verdict}
@@ -23,16 +23,21 @@ pub data Act : Type 0 where
 abbrev pub after_took : Lane → ℕ → History → History
 after_took lane sender g = bare (Line.Took lane sender) ∷ g
 
+-- the span that it closes, if it closes one
+abbrev pub took_span : Script → Lane → ℕ → History → Option (ℕ × ℕ)
+took_span script lane sender g = span_after_took script lane (after_took lane sender g)
+
 -- the rows, by act: offer, tick, take, land, the done list, the receiving end, stops, controls
 pub data Fits (script : Script) (h : History) : Act → History → Type 0 where
   takes : (lane : Lane) (sender : ℕ) (frame : Frame)
       → works (phase_of script h) ≡ true
       → feed_head script lane (past lane h) sender ≡ Some frame
       → verdict_of script.params lane frame ≡ Verdict.Take
-      → (offer_needs_home script.params lane (past lane h) (span_after_took script lane (after_took lane sender (past lane h))) ≡ true
+      → (offer_needs_home script.params lane (past lane h) (took_span script lane sender (past lane h)) ≡ true
       → 0 < tx_home script.params lane (past lane h))
       → Fits script h (Works (Offer lane sender))
-      (bare (Line.Took lane sender) ∷ made_if script lane (after_took lane sender (past lane h)) (span_after_took script lane (after_took lane sender (past lane h))))
+      (bare (Line.Took lane sender)
+      ∷ made_if script lane (after_took lane sender (past lane h)) (took_span script lane sender (past lane h)))
   refuses : (lane : Lane) (sender : ℕ) (frame : Frame) (why : Verdict)
       → works (phase_of script h) ≡ true
       → feed_head script lane (past lane h) sender ≡ Some frame
@@ -45,7 +50,8 @@ pub data Fits (script : Script) (h : History) : Act → History → Type 0 where
       → 0 < built (past lane h)
       → pending script.params lane (past lane h) ≡ 0
       → (tick_needs_home script.params lane (past lane h) ≡ true → 0 < tx_home script.params lane (past lane h))
-      → Fits script h (Works (Tick lane)) (made_entry script lane (past lane h) (cover (past lane h), taken (past lane h)) ∷ [])
+      → Fits script h (Works (Tick lane))
+      (made_entry script lane (past lane h) (cover (past lane h), taken (past lane h)) ∷ [])
   begins_flight : (lane : Lane) (k : ℕ)
       → is_asleep (phase_of script h) ≡ false
       → flying (past lane h) ≡ []

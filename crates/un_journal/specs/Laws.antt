@@ -27,27 +27,33 @@ use Rattle.un_journal.specs.Unplug.{AwaitsUnplug, IsSettledAway, IsPrefix}
 
 -- exactly one of the five places holds an accepted datagram
 abbrev pub IsInOnePlace : Type 0
-IsInOnePlace = (script : Script) (h : History) (lane : Lane) (n : ℕ) → Legal script h → n < taken (past lane h) → trues (places (past lane h) n) ≡ 1
+IsInOnePlace = (script : Script) (h : History) (lane : Lane) (n : ℕ)
+    → Legal script h → n < taken (past lane h) → trues (places (past lane h) n) ≡ 1
 
 -- its counts add up to 1
 abbrev pub CensusAddsUp : Type 0
-CensusAddsUp = (script : Script) (h : History) (lane : Lane) (n : ℕ) → Legal script h → n < taken (past lane h) → total (census script h lane n) ≡ 1
+CensusAddsUp = (script : Script) (h : History) (lane : Lane) (n : ℕ)
+    → Legal script h → n < taken (past lane h) → total (census script h lane n) ≡ 1
 
 -- and name its place
 abbrev pub CensusNamesPlace : Type 0
-CensusNamesPlace = (script : Script) (h : History) (lane : Lane) (n : ℕ) → Legal script h → n < taken (past lane h) → NamesPlace (census script h lane n) (past lane h) n
+CensusNamesPlace = (script : Script) (h : History) (lane : Lane) (n : ℕ)
+    → Legal script h → n < taken (past lane h) → NamesPlace (census script h lane n) (past lane h) n
 
 -- any other number is nowhere
 abbrev pub CensusIsNowhere : Type 0
-CensusIsNowhere = (script : Script) (h : History) (lane : Lane) (n : ℕ) → Legal script h → taken (past lane h) ≤ n → census script h lane n ≡ nowhere
+CensusIsNowhere = (script : Script) (h : History) (lane : Lane) (n : ℕ)
+    → Legal script h → taken (past lane h) ≤ n → census script h lane n ≡ nowhere
 
 -- a transfer flies where it has a flying line and none that ends it
 abbrev pub FliesInPlainWords : Type 0
-FliesInPlainWords = (script : Script) (h : History) (lane : Lane) (k : ℕ) → Legal script h → flies (past lane h) k ≡ (flown (past lane h) k && not (ended (past lane h) k))
+FliesInPlainWords = (script : Script) (h : History) (lane : Lane) (k : ℕ)
+    → Legal script h → flies (past lane h) k ≡ (flown (past lane h) k && not (ended (past lane h) k))
 
 -- a made transfer waits where it has neither a flying nor a cut line
 abbrev pub WaitsInPlainWords : Type 0
-WaitsInPlainWords = (script : Script) (h : History) (lane : Lane) (k : ℕ) → Legal script h → waits (past lane h) k ≡ (not (flown (past lane h) k) && not (was_cut (past lane h) k))
+WaitsInPlainWords = (script : Script) (h : History) (lane : Lane) (k : ℕ)
+    → Legal script h → waits (past lane h) k ≡ (not (flown (past lane h) k) && not (was_cut (past lane h) k))
 
 -- WHAT IS GIVEN AND LOST
 
@@ -57,33 +63,44 @@ GivenRises = (script : Script) (h : History) (lane : Lane) → Legal script h �
 
 -- each of them was accepted
 abbrev pub GivenIsAccepted : Type 0
-GivenIsAccepted = (script : Script) (h : History) (lane : Lane) → Legal script h → IsAllBelow (given (past lane h)) (taken (past lane h))
+GivenIsAccepted = (script : Script) (h : History) (lane : Lane)
+    → Legal script h → IsAllBelow (given (past lane h)) (taken (past lane h))
 
 -- each gave line carries the bytes of the datagram with its number
 abbrev pub GivenIsUnchanged : Type 0
-GivenIsUnchanged = (script : Script) (h : History) (lane : Lane) → AreInRange script.params → Agree script.params → Legal script h → AreDatagrams (datagrams script lane (past lane h)) (past lane h)
+GivenIsUnchanged = (script : Script) (h : History) (lane : Lane)
+    → AreInRange script.params → Agree script.params → Legal script h
+    → AreDatagrams (datagrams script lane (past lane h)) (past lane h)
 
 -- each failed, cut and dropped line has its cause at its place
 abbrev pub LossIsLicensed : Type 0
-LossIsLicensed = (script : Script) (before after : History) (e : Entry) → Legal script (before ++ e ∷ after) → Licensed script (reverse before) e
+LossIsLicensed = (script : Script) (before after : History) (e : Entry)
+    → Legal script (before ++ e ∷ after) → Licensed script (reverse before) e
 
 -- a settled line finds every request at home
 abbrev pub SettledIsHome : Type 0
-SettledIsHome = (script : Script) (before after : History) (t1 r1 t2 r2 : ℕ) (bytes : List ℕ) → Legal script (before ++ (Settled t1 r1 t2 r2, bytes) ∷ after) → AreSizes script t1 r1 t2 r2
+SettledIsHome = (script : Script) (before after : History) (t1 r1 t2 r2 : ℕ) (bytes : List ℕ)
+    → Legal script (before ++ (Settled t1 r1 t2 r2, bytes) ∷ after) → AreSizes script t1 r1 t2 r2
 
 -- without a planned fault or a stop, and awake at the end, everything that was accepted is given
 abbrev pub AllIsGiven : Type 0
-AllIsGiven = (script : Script) (h : History) (lane : Lane) → AreInRange script.params → LosesNothing script → IsDone script h → given (past lane h) ≡ row_from 0 (taken (past lane h))
+AllIsGiven = (script : Script) (h : History) (lane : Lane)
+    → AreInRange script.params → LosesNothing script → IsDone script h
+    → given (past lane h) ≡ row_from 0 (taken (past lane h))
 
 -- and each sender's frames that are to be taken were accepted, in their order
 abbrev pub AllIsAccepted : Type 0
-AllIsAccepted = (script : Script) (h : History) (lane : Lane) (sender : ℕ) → AreInRange script.params → LosesNothing script → IsDone script h → accepted script lane (past lane h) sender ≡ good_frames script.params lane (frames_of script lane sender)
+AllIsAccepted = (script : Script) (h : History) (lane : Lane) (sender : ℕ)
+    → AreInRange script.params → LosesNothing script → IsDone script h
+    → accepted script lane (past lane h) sender ≡ good_frames script.params lane (frames_of script lane sender)
 
 -- LINES
 
 -- a made or gave line carries at least one byte and every other line none; the verdict of a refused line refuses
 abbrev pub LinesAreSpelled : Type 0
-LinesAreSpelled = (script : Script) (before after : History) (line : Line) (bytes : List ℕ) → AreInRange script.params → Agree script.params → Legal script (before ++ (line, bytes) ∷ after) → HasReason line × CarriesItsBytes line bytes
+LinesAreSpelled = (script : Script) (before after : History) (line : Line) (bytes : List ℕ)
+    → AreInRange script.params → Agree script.params → Legal script (before ++ (line, bytes) ∷ after)
+    → HasReason line × CarriesItsBytes line bytes
 
 -- no history has more lines than a link keeps room for
 abbrev pub LinesAreBounded : Type 0
@@ -91,21 +108,28 @@ LinesAreBounded = (script : Script) (h : History) → Legal script h → length 
 
 -- nor more bytes of lines
 abbrev pub BytesAreBounded : Type 0
-BytesAreBounded = (script : Script) (h : History) → AreInRange script.params → Agree script.params → Legal script h → bytes_in h ≤ byte_bound script
+BytesAreBounded = (script : Script) (h : History)
+    → AreInRange script.params → Agree script.params → Legal script h → bytes_in h ≤ byte_bound script
 
 -- THE REQUESTS OF A LANE
 
 -- a transmit request is home, claimed, or in a transfer that isn't home again
 abbrev pub TransmitAddsUp : Type 0
-TransmitAddsUp = (script : Script) (h : History) (lane : Lane) → Legal script h → made (past lane h) + tx_home script.params lane (past lane h) + claim script.params lane (past lane h) ≡ tx_size script.params lane + returned (past lane h)
+TransmitAddsUp = (script : Script) (h : History) (lane : Lane)
+    → Legal script h
+    → made (past lane h) + tx_home script.params lane (past lane h) + claim script.params lane (past lane h) ≡ tx_size script.params lane + returned (past lane h)
 
 -- a receive request is home, or was posted and didn't come back
 abbrev pub ReceiveAddsUp : Type 0
-ReceiveAddsUp = (script : Script) (h : History) (lane : Lane) → Legal script h → posts (past lane h) + rx_home script.params lane (past lane h) ≡ rx_back script.params lane (past lane h)
+ReceiveAddsUp = (script : Script) (h : History) (lane : Lane)
+    → Legal script h
+    → posts (past lane h) + rx_home script.params lane (past lane h) ≡ rx_back script.params lane (past lane h)
 
 -- no pool has more at home than it has
 abbrev pub HomeIsInPool : Type 0
-HomeIsInPool = (script : Script) (h : History) (lane : Lane) → Legal script h → (tx_home script.params lane (past lane h) ≤ tx_size script.params lane) × (rx_home script.params lane (past lane h) ≤ rx_size script.params lane)
+HomeIsInPool = (script : Script) (h : History) (lane : Lane)
+    → Legal script h
+    → (tx_home script.params lane (past lane h) ≤ tx_size script.params lane) × (rx_home script.params lane (past lane h) ≤ rx_size script.params lane)
 
 -- where not all are at home, some are away
 abbrev pub SomeAreAway : Type 0
@@ -119,23 +143,28 @@ NoneIsAway = (script : Script) (h : History) → all_home script h ≡ true → 
 
 -- after a legal history an act has at most one step that fits
 abbrev pub StepIsOne : Type 0
-StepIsOne = (script : Script) (h : History) (act : Act) (xs ys : History) → Legal script h → Fits script h act xs → Fits script h act ys → xs ≡ ys
+StepIsOne = (script : Script) (h : History) (act : Act) (xs ys : History)
+    → Legal script h → Fits script h act xs → Fits script h act ys → xs ≡ ys
 
 -- what an act writes is a step that fits by the table
 abbrev pub WrittenFits : Type 0
-WrittenFits = (script : Script) (h : History) (act : Act) (lines : History) → act_outcome script h act ≡ Writes lines → Fits script h act lines
+WrittenFits = (script : Script) (h : History) (act : Act) (lines : History)
+    → act_outcome script h act ≡ Writes lines → Fits script h act lines
 
 -- and what fits by the table is what the act writes
 abbrev pub FittingIsWritten : Type 0
-FittingIsWritten = (script : Script) (h : History) (act : Act) (lines : History) → Legal script h → Fits script h act lines → act_outcome script h act ≡ Writes lines
+FittingIsWritten = (script : Script) (h : History) (act : Act) (lines : History)
+    → Legal script h → Fits script h act lines → act_outcome script h act ≡ Writes lines
 
 -- whatever an act does, the history stays legal
 abbrev pub ActsStayLegal : Type 0
-ActsStayLegal = (script : Script) (h : History) (act : Act) → Legal script h → Legal script (h ++ lines_in (act_outcome script h act))
+ActsStayLegal = (script : Script) (h : History) (act : Act)
+    → Legal script h → Legal script (h ++ lines_in (act_outcome script h act))
 
 -- so does a run of actions
 abbrev pub RunsStayLegal : Type 0
-RunsStayLegal = (script : Script) (h : History) (actions : List Action) → Legal script h → Legal script (run script h actions)
+RunsStayLegal = (script : Script) (h : History) (actions : List Action)
+    → Legal script h → Legal script (run script h actions)
 
 -- THE END
 
@@ -145,11 +174,14 @@ DoneIsFinished = (script : Script) (h : History) → AreInRange script.params �
 
 -- a quiet history with no control left is done
 abbrev pub QuietIsDone : Type 0
-QuietIsDone = (script : Script) (h : History) → Legal script h → quiet script h ≡ true → controls_done (reverse h) ≡ length script.controls → IsDone script h
+QuietIsDone = (script : Script) (h : History)
+    → Legal script h → quiet script h ≡ true → controls_done (reverse h) ≡ length script.controls → IsDone script h
 
 -- a done history is quiet with no control left
 abbrev pub DoneIsQuiet : Type 0
-DoneIsQuiet = (script : Script) (h : History) → AreInRange script.params → IsDone script h → (quiet script h ≡ true) × (controls_done (reverse h) ≡ length script.controls)
+DoneIsQuiet = (script : Script) (h : History)
+    → AreInRange script.params → IsDone script h
+    → (quiet script h ≡ true) × (controls_done (reverse h) ≡ length script.controls)
 
 -- no legal history goes on after a done one
 abbrev pub DoneIsFinal : Type 0
@@ -161,7 +193,8 @@ DrainIsLegal = (script : Script) (h : History) → Legal script h → Legal scri
 
 -- the drain doesn't stop early: as many rounds as lines have room, or more, leave the same
 abbrev pub DrainEnds : Type 0
-DrainEnds = (script : Script) (h : History) (rounds : ℕ) → Legal script h → line_bound script ≤ rounds + length h → drain_in rounds script h ≡ drain script h
+DrainEnds = (script : Script) (h : History) (rounds : ℕ)
+    → Legal script h → line_bound script ≤ rounds + length h → drain_in rounds script h ≡ drain script h
 
 -- where nothing flies, no step fits after the drain
 abbrev pub DrainIsDone : Type 0
@@ -169,8 +202,10 @@ DrainIsDone = (script : Script) (h : History) → Legal script h → NoneFlies h
 
 -- where an unplug is the last control and nothing flies, the drain leaves the link settled and away
 abbrev pub CutIsSettled : Type 0
-CutIsSettled = (script : Script) (h : History) → AreInRange script.params → Legal script h → AwaitsUnplug script h → IsSettledAway script (drain script h)
+CutIsSettled = (script : Script) (h : History)
+    → AreInRange script.params → Legal script h → AwaitsUnplug script h → IsSettledAway script (drain script h)
 
 -- what was given begins what is given after the drain
 abbrev pub GivenIsKept : Type 0
-GivenIsKept = (script : Script) (h : History) (lane : Lane) → IsPrefix (given (past lane h)) (given (past lane (drain script h)))
+GivenIsKept = (script : Script) (h : History) (lane : Lane)
+    → IsPrefix (given (past lane h)) (given (past lane (drain script h)))

@@ -88,7 +88,8 @@ datagrams script lane (e ∷ g) = datagrams script lane g
 -- whether the feeds of the lane's four senders are empty
 abbrev pub feeds_empty_from : Script → Lane → History → ℕ → ℕ → Bool
 feeds_empty_from script lane g sender zero = true
-feeds_empty_from script lane g sender (suc n) = not (is_some (feed_head script lane g sender)) && feeds_empty_from script lane g (sender + 1) n
+feeds_empty_from script lane g sender (suc n) =
+    not (is_some (feed_head script lane g sender)) && feeds_empty_from script lane g (sender + 1) n
 
 abbrev pub feeds_empty : Script → Lane → History → Bool
 feeds_empty script lane g = feeds_empty_from script lane g 0 4

@@ -15,8 +15,10 @@ use Rattle.un_journal.specs.Lookup.{feed_head}
 -- no fault is planned, every control is a suspend or a resume, and the last one isn't a suspend
 pub record LosesNothing (script : Script) : Type 0 where
   pub no_fault : script.faults ≡ []
-  pub only_sleeps : (c : ℕ) (due : Due) → slice_get script.controls c ≡ Some due → (due.control ≡ Order.Suspend) ⊎ (due.control ≡ Order.Resume)
-  pub ends_awake : (due : Due) → 0 < length script.controls → slice_get script.controls (length script.controls - 1) ≡ Some due → due.control ≡ Order.Suspend → ⊥
+  pub only_sleeps : (c : ℕ) (due : Due) → slice_get script.controls c ≡ Some due
+      → (due.control ≡ Order.Suspend) ⊎ (due.control ≡ Order.Resume)
+  pub ends_awake : (due : Due) → 0 < length script.controls → slice_get script.controls (length script.controls - 1) ≡ Some due
+      → due.control ≡ Order.Suspend → ⊥
 
 abbrev pub is_take : Verdict → Bool
 is_take Take = true
@@ -26,7 +28,8 @@ is_take _ = false
 abbrev pub accepted : Script → Lane → History → ℕ → List Frame
 accepted script lane [] sender = []
 accepted script lane ((Took l s, bytes) ∷ g) sender =
-    if s == sender then accepted script lane g sender ++ unwrap_or (feed_head script lane g s) [] ∷ [] else accepted script lane g sender
+    if s == sender then accepted script lane g sender ++ unwrap_or (feed_head script lane g s) [] ∷ []
+    else accepted script lane g sender
 accepted script lane (e ∷ g) sender = accepted script lane g sender
 
 -- the frames of a list that are to be taken

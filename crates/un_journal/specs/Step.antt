@@ -27,7 +27,8 @@ abbrev pub made_if : Script → Lane → History → Option (ℕ × ℕ) → His
 made_if script lane g closed = made_lines script.params lane (built_frames script lane g) g closed
 
 abbrev pub judge : Script → Lane → ℕ → History → Verdict → Outcome
-judge script lane sender g Verdict.Take = accept script.params lane sender (built_frames script lane (bare (Line.Took lane sender) ∷ g)) g
+judge script lane sender g Verdict.Take =
+    accept script.params lane sender (built_frames script lane (bare (Line.Took lane sender) ∷ g)) g
 judge script lane sender g why = Writes (bare (Line.Refused lane sender why) ∷ [])
 
 abbrev pub offer_head : Script → Phase → Lane → ℕ → History → Option Frame → Outcome
