@@ -1,4 +1,5 @@
-//! Parameters of a link, the verdict on a frame, and the faults of a transfer.
+//! The base of the project: the parameters of a link, the verdict on a frame, the faults of a transfer, and every
+//! definition of bytes on the bus with its laws (specs/, docs/DEFINITIONS.md).
 #![tactic(auto)]
 
 mod bytes;
@@ -12,5 +13,8 @@ pub use bytes::Bytes;
 pub use fault::{Fault, Kind};
 pub use judge::{address, verdict};
 pub use kinds::{Address, FaultKind, Phase, Verdict};
-pub use laws::{faults_are_exact, forms_are_read, readings_are_one};
+pub use laws::{
+    faults_are_exact, forms_are_read, forms_are_short, open_transfers, parts_are_frames,
+    readings_are_one, segments_fit, taken_frames,
+};
 pub use params::{Class, Lane, Params};
