@@ -4,6 +4,8 @@
 mod checks;
 mod header;
 mod items;
+#[cfg(test)]
+mod tests;
 mod writer;
 
 pub use items::{Item, Items, read};

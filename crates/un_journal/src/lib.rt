@@ -13,6 +13,7 @@ mod lines;
 mod machine;
 #[cfg(test)]
 mod tests;
+mod texts;
 mod writer;
 
 pub use actions::{Action, Answer};
@@ -29,4 +30,5 @@ pub use laws::{
 };
 pub use lines::Line;
 pub use machine::{Flight, Machine, Transfer};
+pub use texts::{entries_are_read, histories_are_read};
 pub use writer::{put, reserve, write_hex, write_trace};

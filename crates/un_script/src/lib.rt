@@ -15,5 +15,4 @@ mod why;
 pub use law::read_scripts_are_ready;
 pub use reader::read;
 pub use script::Script;
-pub use standing::Standing;
 pub use why::{ScriptError, Why};
