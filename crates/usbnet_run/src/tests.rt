@@ -23,6 +23,11 @@ fn filled(alloc: Global, pieces: &[Piece]) -> Result<Vec<u8>, AllocError> {
     Ok(text)
 }
 
+/// A script of one frame of 60 bytes.
+fn small(alloc: Global) -> Result<Vec<u8>, AllocError> {
+    filled(alloc, &[(b"class ecm\nrequests 1 1 1 1\nout 0 ", 60)])
+}
+
 /// So many zero bytes.
 fn zeros(alloc: Global, size: usize) -> Result<Vec<u8>, AllocError> {
     vec![in alloc; 0u8; size]
@@ -112,14 +117,13 @@ fn faults_and_bad_words_are_told(rt: HostRuntime) -> Result<(), Fail> {
     let long = zeros(rt.alloc(), 16_777_217)?;
     let (status, sink) = answer(rt.alloc(), &["serial"], long, &[], &[])?;
     assert_eq!(rt; (status, sink.held()), (7, b"too large\n".as_slice()));
-    let row: &[Piece] = &[(b"class ecm\nrequests 1 1 1 1\nout 0 ", 60)];
-    let input = filled(rt.alloc(), row)?;
+    let input = small(rt.alloc())?;
     let (status, sink) = answer(rt.alloc(), &[], input, &[], &[])?;
     assert_eq!(rt; (status, sink.held()), (4, b"bad words\n".as_slice()));
-    let input = filled(rt.alloc(), row)?;
+    let input = small(rt.alloc())?;
     let (status, sink) = answer(rt.alloc(), &["serial"], input, &[0], &[])?;
     assert_eq!(rt; (status, sink.held()), (2, b"read fault\n".as_slice()));
-    let input = filled(rt.alloc(), row)?;
+    let input = small(rt.alloc())?;
     let (status, sink) = answer(rt.alloc(), &["serial"], input, &[], &[0])?;
     assert_eq!(rt; (status, sink.held()), (3, b"".as_slice()));
     Ok(())
