@@ -3,7 +3,7 @@ use Rattle.std.proofs.Common.{◌≡◌, ℕ, zero, suc, ◌+◌, ◌-◌, ◌*�
 use Rattle.std.proofs.lemmas.List.{length-reverse}
 use Rattle.std.specs.List.{sum_by}
 use Rattle.std.proofs.lemmas.List.Sums.{sum_by-cons}
-use Rattle.std.proofs.lemmas.Bool.{false≢true, eqb-true, eqb-false, eq-eqb, ne_eqb, cases_lt, cases_Bool, and_parts}
+use Rattle.std.proofs.lemmas.Bool.{false≢true, eqb-true, eq-eqb, ne_eqb, cases_lt, lt-ltb, ltb-true}
 use Rattle.std.proofs.lemmas.Bool.Decides.{nat_tests}
 use Rattle.std.proofs.lemmas.Option.{slice_get_within}
 use Rattle.un_frame.specs.declared.params.Lane.{Lane}
@@ -29,6 +29,7 @@ use Rattle.un_journal.proofs.Delivery.{those_count}
 use Rattle.un_journal.proofs.Rules.{LaneRule, AllRuled, legal_ruled}
 use Rattle.un_journal.proofs.Homes.{AllLane, lane_ruled, landings, one_if, flight_sum, ends_made, returned_ends, HomeSums, home_sums, delivered_landed}
 use Rattle.un_journal.proofs.Finished.{controls_within}
+use Rattle.std.proofs.Math.Nat.{mul-le-mul_right}
 
 -- COUNTS OF LINES
 
@@ -420,14 +421,14 @@ owed_line script phase l (Made l' k a b, bytes) g r sound = less (works phase) (
       where
         go : (v : Bool) → nat_lt 0 (t - b) ≡ v → drops g + one_if v ≤ drops g + one_if (nat_lt 0 (t - c))
         go false e = omega arith
-        go true e = let some : 0 < t - b = Rattle.std.proofs.lemmas.Bool.ltb-true 0 (t - b) e in rw (Rattle.std.proofs.lemmas.Bool.lt-ltb 0 (t - c) (omega arith)) (omega arith)
+        go true e = let some : 0 < t - b = ltb-true 0 (t - b) e in rw (lt-ltb 0 (t - c) (omega arith)) (omega arith)
 owed_line script phase l (Dropped l' a b c, bytes) g r sound =
     let w : works phase ≡ false = r.0 in
     let is_by : b ≡ taken g = r.1 in
     let begin : a ≡ cover g = sound.0.begins in
     let some : a < b = sound.0.is_some in
     let none : taken g - b ≡ 0 = omega arith in
-    let yes : nat_lt 0 (taken g - cover g) ≡ true = Rattle.std.proofs.lemmas.Bool.lt-ltb 0 (taken g - cover g) (omega arith) in
+    let yes : nat_lt 0 (taken g - cover g) ≡ true = lt-ltb 0 (taken g - cover g) (omega arith) in
     rw (w, yes, none) (omega arith)
 owed_line script phase l (e, bytes) g r sound = omega arith
 
@@ -515,8 +516,8 @@ settled_both l (e ∷ older) = go (concerns l e) (settled_both l older)
 
 sum_two : (done c q r1 r2 s1 s2 : ℕ) → done ≤ c → r1 ≤ done * s1 → r2 ≤ done * s2 → 2 * r1 + s1 + (2 * r2 + s2) ≤ (2 * c + 1) * (s1 + s2)
 sum_two done c q r1 r2 s1 s2 h a b =
-    let a' : done * s1 ≤ c * s1 = Rattle.std.proofs.Math.Nat.mul-le-mul_right s1 h in
-    let b' : done * s2 ≤ c * s2 = Rattle.std.proofs.Math.Nat.mul-le-mul_right s2 h in
+    let a' : done * s1 ≤ c * s1 = mul-le-mul_right s1 h in
+    let b' : done * s2 ≤ c * s2 = mul-le-mul_right s2 h in
     grind arith
 
 pub legal_bound : (script : Script) (h : History) → Legal script h → length h ≤ line_bound script

@@ -13,15 +13,18 @@ use Rattle.un_journal.specs.declared.controls.Due.{Due}
 use Rattle.un_journal.specs.Script.{Script, tx_size}
 use Rattle.un_journal.specs.History.{Entry, History, past, concerns, those, taken, made, cover, built, posted, flies, waits, waiting, ended, landed, failed, was_cut, mark, returned, told_if}
 use Rattle.un_journal.specs.Lookup.{phase_of, phase_after, after_order, after_control, after_settled, works, is_awake, is_stopping, is_leaving, controls_done, tx_home, deferred, unmarked, is_deferring}
-use Rattle.un_journal.specs.Step.{bare, cut_each, marked_each, recalled_each, dropped_built, order_lines, settled_line}
+use Rattle.un_journal.specs.LaneSteps.{bare}
+use Rattle.un_journal.specs.Step.{cut_each, marked_each, recalled_each, dropped_built, order_lines, settled_line}
 use Rattle.un_journal.specs.Sound.{IsSound}
 use Rattle.un_journal.specs.Done.{is_gone}
 use Rattle.un_journal.specs.Sums.{claim}
 use Rattle.un_journal.specs.Fits.{Act, Fits, takes, refuses, waits_once, closes, begins_flight, cuts_queued, lands, fails, cuts_flight, comes_home, opens, gives, posts_one, marks, recalls_one, clears, settles, orders, orders_forced, Legal, begins, goes_on, after_took}
 use Rattle.un_journal.proofs.Legal.{AllSound}
 use Rattle.un_journal.proofs.Steps.{legal_good}
-use Rattle.un_journal.proofs.Rules.{onto, onto_append, reverse_onto, past_onto, LaneRule, Rule, AllRuled, AreStill, is_still_line, still_phase, legal_ruled, onto_cut, onto_marked, onto_recalled, onto_dropped, onto_stop, stop_part, order_part, order_filter, order_still, pick, made_still}
+use Rattle.un_journal.proofs.Onto.{onto, onto_append, reverse_onto, filter_onto}
+use Rattle.un_journal.proofs.Rules.{LaneRule, Rule, AllRuled, AreStill, is_still_line, still_phase, legal_ruled, onto_cut, onto_marked, onto_recalled, onto_dropped, onto_stop, stop_part, order_part, order_filter, order_still, pick, made_still}
 use Rattle.un_journal.proofs.Homes.{ends_made, returned_ends, ended_below, one_if, legal_sums, HomeSums}
+use Rattle.un_journal.proofs.Order.{ends, is_up}
 
 -- every transfer that isn't over is marked
 abbrev pub AllMarked : History → Type 0
@@ -124,11 +127,8 @@ calm_line script phase l (TxHome l' k, bytes) g still r sound w = record {
   emptied = w.emptied;
   leaving = w.leaving;
   gone = λ q. let all : returned g ≡ made g = w.gone q in
-      let low : k < ends g = ended_below g sound.1 k sound.0.1 in let same : k ≡ returned g = sound.0.0 in let high : ends g + one_if (Rattle.un_journal.proofs.Order.is_up g) ≤ made g = ends_made g sound.1 in absurd (omega arith);
+      let low : k < ends g = ended_below g sound.1 k sound.0.1 in let same : k ≡ returned g = sound.0.0 in let high : ends g + one_if (is_up g) ≤ made g = ends_made g sound.1 in absurd (omega arith);
 }
-  where
-    ends : History → ℕ
-    ends = Rattle.un_journal.proofs.Order.ends
 calm_line script phase l (Line.Control c f, bytes) g still r sound w = absurd (false≢true still)
 calm_line script phase l (Settled t1 r1 t2 r2, bytes) g still r sound w = absurd (false≢true still)
 calm_line script phase l (e, bytes) g still r sound w = record { emptied = w.emptied; leaving = w.leaving; gone = w.gone }
@@ -197,8 +197,8 @@ settled_calm script h t1 r1 t2 r2 s all w l =
 pub all_returned : (script : Script) (l : Lane) (g : History) → IsSound g → HomeSums script.params l g → tx_home script.params l g ≡ tx_size script.params l → returned g ≡ made g
 all_returned script l g sound sums e =
     let t : made g + tx_home script.params l g + claim script.params l g ≡ tx_size script.params l + returned g = sums.transmit in
-    let re : returned g ≤ Rattle.un_journal.proofs.Order.ends g = returned_ends g sound in
-    let en : Rattle.un_journal.proofs.Order.ends g + one_if (Rattle.un_journal.proofs.Order.is_up g) ≤ made g = ends_made g sound in omega arith
+    let re : returned g ≤ ends g = returned_ends g sound in
+    let en : ends g + one_if (is_up g) ≤ made g = ends_made g sound in omega arith
 
 -- A CONTROL
 
@@ -396,7 +396,7 @@ order_calm script h f due e all sound w l =
 
     parts : filter (concerns l) (onto lines (did ∷ reverse h)) ≡ onto (order_part due.control l c (phase_of script h) (past l h)) (past l h)
     parts =
-        Rattle.un_journal.proofs.Rules.filter_onto (concerns l) lines (did ∷ reverse h)
+        filter_onto (concerns l) lines (did ∷ reverse h)
         ∙ ap (λ x. onto x (past l h)) (order_filter due.control l c (phase_of script h) (past Outward h) (past Inward h) ∙ ap (order_part due.control l c (phase_of script h)) (picked l))
 
     unlinked : {i : Lane} → due.control ≡ Order.Unlink i → CalmLane (phase_of script h) (onto (order_part due.control l c (phase_of script h) (past l h)) (past l h))

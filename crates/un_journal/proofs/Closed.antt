@@ -14,17 +14,19 @@ use Rattle.un_journal.specs.declared.controls.Due.{Due}
 use Rattle.un_journal.specs.Script.{Script, feeds_of}
 use Rattle.un_journal.specs.History.{History, past, concerns, flying, given, is_empty}
 use Rattle.un_journal.specs.Lookup.{phase_of, phase_after, after_order, after_control, after_settled, is_stopping, is_leaving, controls_done}
-use Rattle.un_journal.specs.Step.{Work, work, Outcome, is_still, lane_works, quiet, lines_in, control_head}
-use Rattle.un_journal.specs.Drain.{drain, line_bound}
+use Rattle.un_journal.specs.LaneSteps.{Outcome, lines_in}
+use Rattle.un_journal.specs.Step.{Work, work, is_still, lane_works, quiet, control_head}
+use Rattle.un_journal.specs.Drain.{drain}
 use Rattle.un_journal.proofs.Ranges.{HavePools}
-use Rattle.un_journal.specs.Done.{IsFinished, IsSpread, is_gone}
-use Rattle.un_journal.specs.Loss.{is_settled_last, IsPrefix}
+use Rattle.un_journal.specs.Done.{IsFinished, is_gone, NoneFlies}
+use Rattle.un_journal.specs.Unplug.{AwaitsUnplug, IsSettledAway, is_settled_last, IsPrefix}
 use Rattle.un_journal.specs.Fits.{Act, Works, Controls, Fits, Legal, IsDone, act_outcome}
 use Rattle.un_journal.proofs.Legal.{none_flies, empty_is}
 use Rattle.un_journal.proofs.Steps.{legal_good}
-use Rattle.un_journal.proofs.Rules.{AllRuled, legal_ruled, onto, past_onto}
+use Rattle.un_journal.proofs.Onto.{onto, past_onto}
+use Rattle.un_journal.proofs.Rules.{AllRuled, legal_ruled}
 use Rattle.un_journal.proofs.Finished.{done_finished, is_quiet}
-use Rattle.un_journal.proofs.Drained.{Grounded, no_fit, sends_head, land_idle, drain_done, drain_extends, Extends, four_feeds}
+use Rattle.un_journal.proofs.Drained.{no_fit, sends_head, land_idle, drain_done, Extends, four_feeds}
 
 -- FINISHED
 
@@ -44,7 +46,7 @@ module _ (script : Script) (h : History) (legal : Legal script h) (q : quiet scr
   parts : ((is_empty (flying (past Outward h)) && is_empty (flying (past Inward h))) ≡ true) × (list_all (λ w. is_still (work script h w)) (lane_works Outward ++ lane_works Inward ++ Work.Settle ∷ []) ≡ true)
   parts = and_parts (is_empty (flying (past Outward h)) && is_empty (flying (past Inward h))) _ q
 
-  grounded : Grounded h
+  grounded : NoneFlies h
   grounded Outward k = none_flies (past Outward h) ((legal_good script h legal).sound Outward) (empty_is _ (and_parts (is_empty (flying (past Outward h))) _ parts.0).0) k
   grounded Inward k = none_flies (past Inward h) ((legal_good script h legal).sound Inward) (empty_is _ (and_parts (is_empty (flying (past Outward h))) _ parts.0).1) k
 
@@ -135,36 +137,24 @@ given_onto (e ∷ es) g = let w = given_onto es (e ∷ g) in record { rest = w.r
 pub given_prefix : (h h' : History) (l : Lane) → Extends h h' → IsPrefix (given (past l h)) (given (past l h'))
 given_prefix h h' l w = subst (λ i. IsPrefix (given (past l h)) (given (past l i))) (sym w.is_more) (subst (λ g. IsPrefix (given (past l h)) (given g)) (sym (past_onto l h w.more)) (given_onto (filter (concerns l) w.more) (past l h)))
 
-pub record IsCutOff (script : Script) (h : History) : Type 0 where
-  pub is_away : phase_of script (drain script h) ≡ Away
-  pub is_settled : is_settled_last (reverse (drain script h)) ≡ true
-  pub spread : (l : Lane) → IsSpread (past l (drain script h))
-  pub begun : (l : Lane) → IsPrefix (given (past l h)) (given (past l (drain script h)))
-
-pub cut_off : (script : Script) (h : History) (due : Due) → HavePools script.params → Legal script h → Grounded h
-    → controls_done (reverse h) + 1 ≡ length script.controls → slice_get script.controls (controls_done (reverse h)) ≡ Some due → due.control ≡ Order.Unplug → IsCutOff script h
-cut_off script h due pools legal w n e u = go (stop_case script due last u (omega arith) (reverse d) (legal_ruled script d done.is_legal) f.all_ordered)
+pub cut_off : (script : Script) (h : History) → HavePools script.params → Legal script h → AwaitsUnplug script h → IsSettledAway script (drain script h)
+cut_off script h pools legal w = go (stop_case script w.due last w.is_unplug (let one : controls_done (reverse h) + 1 ≡ length script.controls = w.is_last in omega arith) (reverse d) (legal_ruled script d done.is_legal) f.all_ordered)
   where
     d : History
     d = drain script h
 
     done : IsDone script d
-    done = drain_done script h legal w
+    done = drain_done script h legal w.none_flies
 
     f : IsFinished script d
     f = done_finished script d pools done
 
-    last : slice_get script.controls (length script.controls - 1) ≡ Some due
-    last = subst (λ i. slice_get script.controls i ≡ Some due) place e
+    last : slice_get script.controls (length script.controls - 1) ≡ Some w.due
+    last = subst (λ i. slice_get script.controls i ≡ Some w.due) place w.is_next
       where
         place : controls_done (reverse h) ≡ length script.controls - 1
-        place = omega arith
+        place = let one : controls_done (reverse h) + 1 ≡ length script.controls = w.is_last in omega arith
 
-    go : StopCase (reverse d) (phase_of script d) → IsCutOff script h
+    go : StopCase (reverse d) (phase_of script d) → IsSettledAway script (drain script h)
     go (leaves p s) = absurd (false≢true (sym f.is_settled ∙ ap (λ i. is_stopping i || is_leaving i) p))
-    go (has_left p s) = record {
-      is_away = p;
-      is_settled = s;
-      spread = f.spread_gone (ap is_gone p);
-      begun = λ l. given_prefix h d l (drain_extends (line_bound script + 1) script h);
-    }
+    go (has_left p s) = record { is_away = p; is_settled = s; spread = f.spread_gone (ap is_gone p) }

@@ -14,7 +14,8 @@ use Rattle.un_journal.specs.declared.controls.Due.{Due}
 use Rattle.un_journal.specs.Script.{Script, Frame, planned}
 use Rattle.un_journal.specs.History.{History, past, taken, cover, built, flies, flying, posted, first, made, mark, ended, returned, halted, arrived, current, left_of}
 use Rattle.un_journal.specs.Lookup.{phase_of, works, is_awake, is_asleep, is_stopping, is_leaving, pending, tx_home, rx_home, offer_needs_home, tick_needs_home, feed_head, queued, unmarked, controls_done, span_after_took}
-use Rattle.un_journal.specs.Step.{Outcome, Writes, Answers, lines_in, judge, offer_head, tick, take_from, take_first, take_head, land_from, land_marked, land_planned, tx_done, rx_done_at, open_first, deliver_from, deliver_first, refill, unlink, unlink_first, clear_halt, settle, all_home, control_head, control_now, made_entry, control_forced, hinders, is_due, quiet, Work}
+use Rattle.un_journal.specs.LaneSteps.{Outcome, Writes, Answers, lines_in, take_with, take_first, take_head, land_marked, land_planned, tx_done, rx_done_at, open_first, deliver_current, deliver_number, unlink_first}
+use Rattle.un_journal.specs.Step.{judge, offer_head, tick, land_from, refill, unlink, clear_halt, settle, all_home, control_head, control_now, made_entry, control_forced, hinders, is_due, quiet, Work}
 use Rattle.un_journal.specs.Step.{Offer, Tick, Land, TxDone, RxDone, Deliver, Refill, Unlink, ClearHalt, Settle}
 use Rattle.un_journal.specs.Fits.{Act, Works, Controls, Fits, takes, refuses, waits_once, closes, begins_flight, cuts_queued, lands, fails, cuts_flight, comes_home, opens, gives, posts_one, marks, recalls_one, clears, settles, orders, orders_forced, act_outcome, after_took}
 use Rattle.un_journal.proofs.Lists.{those_first}
@@ -107,7 +108,7 @@ taken_first script h lane xs [] none q o = absurd (never_writes _ xs o)
 taken_first script h lane xs (k ∷ ks) none q o = taken_head script h lane xs k (mark (past lane h) k) none (ap first q) refl o
 
 taken_from : (script : Script) (h : History) (lane : Lane) (xs : History) (ks : List ℕ) → flying (past lane h) ≡ ks
-    → take_from (phase_of script h) lane (past lane h) ks ≡ Writes xs → Fits script h (Works (Work.Take lane)) xs
+    → take_with (is_asleep (phase_of script h)) lane (past lane h) (queued (phase_of script h) lane (past lane h)) ks ≡ Writes xs → Fits script h (Works (Work.Take lane)) xs
 taken_from script h lane xs [] e o = taken_first script h lane xs (queued (phase_of script h) lane (past lane h)) e refl o
 taken_from script h lane xs (k ∷ ks) e o = absurd (never_writes _ xs o)
 
@@ -117,7 +118,7 @@ landed_plan script h lane xs k None f m p o = subst (Fits script h (Works (Land 
 landed_plan script h lane xs k (Some kind) f m p o = subst (Fits script h (Works (Land lane))) (same_lines _ xs o) (fails lane k kind f m p)
 
 landed_mark : (script : Script) (h : History) (lane : Lane) (xs : History) (k : ℕ) (m : Option ℕ) → flies (past lane h) k ≡ true → mark (past lane h) k ≡ m
-    → land_marked script lane k m ≡ Writes xs → Fits script h (Works (Land lane)) xs
+    → land_marked lane (planned script lane k) k m ≡ Writes xs → Fits script h (Works (Land lane)) xs
 landed_mark script h lane xs k (Some c) f m o = subst (Fits script h (Works (Land lane))) (same_lines _ xs o) (cuts_flight lane k c f m)
 landed_mark script h lane xs k None f m o = landed_plan script h lane xs k (planned script lane k) f m refl o
 
@@ -140,11 +141,11 @@ opened_at : (script : Script) (h : History) (lane : Lane) (xs : History) (c : Op
 opened_at script h lane xs (Some k) e o = absurd (never_writes _ xs o)
 opened_at script h lane xs None e o = opened_first script h lane xs (arrived (past lane h)) e refl o
 
-gave_first : (script : Script) (h : History) (lane : Lane) (xs : History) (k : ℕ) (ns : List ℕ) → current (past lane h) ≡ Some k → left_of (past lane h) k ≡ ns → deliver_first script lane (past lane h) k ns ≡ Writes xs → Fits script h (Works (Deliver lane)) xs
+gave_first : (script : Script) (h : History) (lane : Lane) (xs : History) (k : ℕ) (ns : List ℕ) → current (past lane h) ≡ Some k → left_of (past lane h) k ≡ ns → deliver_number script.params lane (past lane h) k ns ≡ Writes xs → Fits script h (Works (Deliver lane)) xs
 gave_first script h lane xs k [] c e o = absurd (never_writes _ xs o)
 gave_first script h lane xs k (n ∷ ns) c e o = subst (Fits script h (Works (Deliver lane))) (same_lines _ xs o) (gives lane k n c (ap first e))
 
-gave_at : (script : Script) (h : History) (lane : Lane) (xs : History) (c : Option ℕ) → current (past lane h) ≡ c → deliver_from script lane (past lane h) c ≡ Writes xs → Fits script h (Works (Deliver lane)) xs
+gave_at : (script : Script) (h : History) (lane : Lane) (xs : History) (c : Option ℕ) → current (past lane h) ≡ c → deliver_current script.params lane (past lane h) c ≡ Writes xs → Fits script h (Works (Deliver lane)) xs
 gave_at script h lane xs None e o = absurd (never_writes _ xs o)
 gave_at script h lane xs (Some k) e o = gave_first script h lane xs k (left_of (past lane h) k) e refl o
 

@@ -47,12 +47,12 @@ occurrences_row n a (suc m) = go (a == n) refl (occurrences_row n (a + 1) m)
         let same : a ≡ n = eqb-true a n e in
         rw (rec, within_below (a + 1) (a + 1 + m) n (omega arith), within_yes a (a + suc m) n (omega arith) (omega arith)) refl
     go false e rec = rec ∙ ap one_if (elim (cases_lt n (a + 1)) [
-        | inl low ↦ within_below (a + 1) (a + 1 + m) n low ∙ sym (within_below a (a + suc m) n (let apart = eqb-false a n e in omega (arith, apart)))
-        | inr high ↦ elim (cases_lt n (a + 1 + m)) [
-            | inl under ↦ within_yes (a + 1) (a + 1 + m) n high under ∙ sym (within_yes a (a + suc m) n (omega arith) (omega arith))
-            | inr over ↦ within_above (a + 1) (a + 1 + m) n over ∙ sym (within_above a (a + suc m) n (omega arith))
-          ]
-      ])
+      | inl low ↦ within_below (a + 1) (a + 1 + m) n low ∙ sym (within_below a (a + suc m) n (let apart = eqb-false a n e in omega (arith, apart)))
+      | inr high ↦ elim (cases_lt n (a + 1 + m)) [
+        | inl under ↦ within_yes (a + 1) (a + 1 + m) n high under ∙ sym (within_yes a (a + suc m) n (omega arith) (omega arith))
+        | inr over ↦ within_above (a + 1) (a + 1 + m) n over ∙ sym (within_above a (a + suc m) n (omega arith))
+      ]
+    ])
 
 pub occurrences_numbers : (n a b : ℕ) → a ≤ b → occurrences n (numbers (a, b)) ≡ one_if (within a b n)
 occurrences_numbers n a b low = occurrences_row n a (b - a) ∙ ap (λ i. one_if (within a i n)) end
@@ -157,18 +157,18 @@ one_more g n false m sound = refl
 listed_more : (p : ℕ → Bool) (m : ℕ) (o : Option ℕ) → listed_below p m o + counted (p m) (one_if (is_owner o m)) ≡ listed_below p (suc m) o
 listed_more p m None = let e : counted (p m) 0 ≡ 0 = counted_none (p m) in omega arith
 listed_more p m (Some j) = elim (cases_lt j m) [
-    | inl low ↦
+  | inl low ↦
+      let e : counted (p m) 0 ≡ 0 = counted_none (p m) in
+      rw (lt-ltb j m low, lt-ltb j (suc m) (omega arith), ne_eqb j m (λ i. omega (arith, i))) (omega arith)
+  | inr high ↦ elim (cases_lt m j) [
+    | inl above ↦
         let e : counted (p m) 0 ≡ 0 = counted_none (p m) in
-        rw (lt-ltb j m low, lt-ltb j (suc m) (omega arith), ne_eqb j m (λ i. omega (arith, i))) (omega arith)
-    | inr high ↦ elim (cases_lt m j) [
-        | inl above ↦
-            let e : counted (p m) 0 ≡ 0 = counted_none (p m) in
-            rw (not_below j m high, not_below j (suc m) (omega arith), ne_eqb j m (λ i. omega (arith, i))) (omega arith)
-        | inr equal ↦ let same : j ≡ m = omega arith in
-            subst (λ i. one_if (nat_lt i m && p i) + counted (p m) (one_if (i == m)) ≡ one_if (nat_lt i (suc m) && p i)) (sym same)
-            (let e : counted (p m) 1 ≡ one_if (p m) = counted_one (p m) in rw (not_below m m (omega arith), lt-ltb m (suc m) (omega arith), eq-eqb m m refl) (omega arith))
-      ]
+        rw (not_below j m high, not_below j (suc m) (omega arith), ne_eqb j m (λ i. omega (arith, i))) (omega arith)
+    | inr equal ↦ let same : j ≡ m = omega arith in
+        subst (λ i. one_if (nat_lt i m && p i) + counted (p m) (one_if (i == m)) ≡ one_if (nat_lt i (suc m) && p i)) (sym same)
+        (let e : counted (p m) 1 ≡ one_if (p m) = counted_one (p m) in rw (not_below m m (omega arith), lt-ltb m (suc m) (omega arith), eq-eqb m m refl) (omega arith))
   ]
+]
 
 listed : (g : History) → IsSound g → (n : ℕ) (p : ℕ → Bool) (m : ℕ) → occurrences n (numbers_of g (those p m)) ≡ listed_below p m (serial_of g n)
 listed g sound n p zero = none (serial_of g n)
@@ -363,8 +363,8 @@ lost_listed ((Made l k a b, bytes) ∷ g) sound n =
     lost_listed g sound.1 n
     ∙ made_lost (within a b n) k (serial_of g n) (dropped g n) (λ j. failed g j || was_cut g j)
     (λ v. let r = within_true a b n v in
-      let w = (owned g sound.1 n).above (let begin : a ≡ cover g = sound.0.1.begins in let low : a ≤ n = r.0 in omega arith) in
-      (w.0, quiet_is_whole g sound.1 k (let e : k ≡ made g = sound.0.0 in omega arith)))
+    let w = (owned g sound.1 n).above (let begin : a ≡ cover g = sound.0.1.begins in let low : a ≤ n = r.0 in omega arith) in
+    (w.0, quiet_is_whole g sound.1 k (let e : k ≡ made g = sound.0.0 in omega arith)))
 lost_listed (e ∷ g) sound n = lost_listed g sound.1 n
 
 -- THE PLACES
@@ -378,9 +378,9 @@ builder_counts params lane g sound n = open_or_not (block_open params lane g) n 
 
 builder_is : (g : History) → IsSound g → (n : ℕ) → n < taken g → within (cover g) (taken g) n ≡ in_builder g n
 builder_is g sound n low = elim (cases_lt n (cover g)) [
-    | inl under ↦ within_below (cover g) (taken g) n under ∙ covered (is_some (serial_of g n)) (dropped g n) ((owned g sound n).below under)
-    | inr over ↦ within_yes (cover g) (taken g) n over low ∙ (let w = (owned g sound n).above over in rw (w.0, w.1) refl)
-  ]
+  | inl under ↦ within_below (cover g) (taken g) n under ∙ covered (is_some (serial_of g n)) (dropped g n) ((owned g sound n).below under)
+  | inr over ↦ within_yes (cover g) (taken g) n over low ∙ (let w = (owned g sound n).above over in rw (w.0, w.1) refl)
+]
   where
     covered : (s d : Bool) → s ≡ not d → false ≡ (not s && not d)
     covered true d e = refl

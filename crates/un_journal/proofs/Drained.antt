@@ -8,18 +8,20 @@ use Rattle.un_frame.specs.declared.params.Lane.TheVariants.{Outward, Inward}
 use Rattle.un_frame.specs.Lanes.{same_lane}
 use Rattle.un_journal.specs.declared.lines.Line.TheVariants.{Flying, Landed, Failed, Cut}
 use Rattle.un_journal.specs.declared.actions.Action.{Action}
-use Rattle.un_journal.specs.Script.{Script, feeds_of}
+use Rattle.un_journal.specs.Script.{Script, feeds_of, planned}
 use Rattle.un_journal.specs.History.{Entry, History, past, concerns, made, flies, flying, mark}
 use Rattle.un_journal.specs.Lookup.{phase_of, controls_done}
-use Rattle.un_journal.specs.Step.{Outcome, Writes, Answers, lines_in, Work, work, bare, move_after, step_of, order_lines, land_from, land_marked, land_planned, land_flight}
+use Rattle.un_journal.specs.LaneSteps.{Outcome, Writes, Answers, lines_in, bare, land_marked}
+use Rattle.un_journal.specs.Step.{Work, work, move_after, step_of, land_from, land_flight, made_if}
 use Rattle.un_journal.specs.Drain.{run, round, drain_in, drain, same_length, line_bound}
+use Rattle.un_journal.specs.Done.{NoneFlies}
 use Rattle.un_journal.specs.Fits.{Act, Works, Controls, Fits, takes, refuses, waits_once, closes, begins_flight, cuts_queued, lands, fails, cuts_flight, comes_home, opens, gives, posts_one, marks, recalls_one, clears, settles, orders, orders_forced, Legal, IsDone, act_outcome, after_took}
-use Rattle.un_journal.proofs.Steps.{legal_good}
-use Rattle.un_journal.proofs.Unique.{fits_outcome, those_empty_below}
+use Rattle.un_journal.proofs.Steps.{legal_good, ArePlain, is_plain, order_plain}
+use Rattle.un_journal.proofs.Unique.{fits_outcome, those_empty_below, Cons}
 use Rattle.un_journal.proofs.Complete.{outcome_fits}
 use Rattle.un_journal.proofs.Going.{legal_run, legal_step, legal_drain_in}
 use Rattle.un_journal.proofs.Bound.{legal_bound, head_within}
-use Rattle.un_journal.proofs.Rules.{onto, reverse_onto, past_onto, filter_of}
+use Rattle.un_journal.proofs.Onto.{onto, reverse_onto, past_onto, filter_of}
 use Rattle.un_journal.proofs.Steps.{own_past, same_lane_same}
 use Rattle.un_journal.proofs.Unique.{those_first_is, cons_from}
 use Rattle.un_journal.proofs.Legal.{next_from, queued_waiting}
@@ -166,9 +168,6 @@ fits_some script h lines act (orders_forced due e p d q' z) q = cc
 
 -- NOTHING FLIES BETWEEN ACTIONS
 
-abbrev pub Grounded : History → Type 0
-Grounded h = (l : Lane) (k : ℕ) → flies (past l h) k ≡ false
-
 abbrev is_no_flight : Entry → Bool
 is_no_flight (Flying l k, bytes) = false
 is_no_flight (e, bytes) = true
@@ -196,18 +195,18 @@ lines_grounded l (e ∷ es) older n k w = lines_grounded l es (e ∷ older) n.1 
     go true = line_grounded e (filter (concerns l) older) k n.0 w
     go false = w
 
-grounded_more : (h lines : History) → NoFlights lines → Grounded h → Grounded (h ++ lines)
+grounded_more : (h lines : History) → NoFlights lines → NoneFlies h → NoneFlies (h ++ lines)
 grounded_more h lines n w l k = subst (λ r. flies (filter (concerns l) r) k ≡ false) (sym (reverse_onto lines h)) (lines_grounded l lines (reverse h) n k (w l k))
 
-plain_no_flight : (e : Entry) → Rattle.un_journal.proofs.Steps.is_plain e ≡ true → is_no_flight e ≡ true
+plain_no_flight : (e : Entry) → is_plain e ≡ true → is_no_flight e ≡ true
 plain_no_flight (Flying l k, bytes) p = p
 plain_no_flight (e, bytes) p = refl
 
-plain_no_flights : (lines : History) → Rattle.un_journal.proofs.Steps.ArePlain lines → NoFlights lines
+plain_no_flights : (lines : History) → ArePlain lines → NoFlights lines
 plain_no_flights [] p = tt
 plain_no_flights (e ∷ es) p = (plain_no_flight e p.0, plain_no_flights es p.1)
 
-made_no_flights : (script : Script) (lane : Lane) (g : History) (closed : Option (ℕ × ℕ)) → NoFlights (Rattle.un_journal.specs.Step.made_if script lane g closed)
+made_no_flights : (script : Script) (lane : Lane) (g : History) (closed : Option (ℕ × ℕ)) → NoFlights (made_if script lane g closed)
 made_no_flights script lane g None = tt
 made_no_flights script lane g (Some s) = (refl, tt)
 
@@ -234,14 +233,14 @@ act_grounded script h lines act t (marks lane k s e) = (refl, tt)
 act_grounded script h lines act t (recalls_one lane s e p) = (refl, tt)
 act_grounded script h lines act t (clears lane a e) = (refl, tt)
 act_grounded script h lines act t (settles s e) = (refl, tt)
-act_grounded script h lines act t (orders force due e p d z) = (refl, plain_no_flights _ (Rattle.un_journal.proofs.Steps.order_plain due.control (controls_done (reverse h)) (phase_of script h) (past Outward h) (past Inward h)))
-act_grounded script h lines act t (orders_forced due e p d q z) = (refl, plain_no_flights _ (Rattle.un_journal.proofs.Steps.order_plain due.control (controls_done (reverse h)) (phase_of script h) (past Outward h) (past Inward h)))
+act_grounded script h lines act t (orders force due e p d z) = (refl, plain_no_flights _ (order_plain due.control (controls_done (reverse h)) (phase_of script h) (past Outward h) (past Inward h)))
+act_grounded script h lines act t (orders_forced due e p d q z) = (refl, plain_no_flights _ (order_plain due.control (controls_done (reverse h)) (phase_of script h) (past Outward h) (past Inward h)))
 
-outcome_grounded : (script : Script) (h : History) (act : Act) (o : Outcome) → is_taking act ≡ false → act_outcome script h act ≡ o → Grounded h → Grounded (h ++ lines_in o)
+outcome_grounded : (script : Script) (h : History) (act : Act) (o : Outcome) → is_taking act ≡ false → act_outcome script h act ≡ o → NoneFlies h → NoneFlies (h ++ lines_in o)
 outcome_grounded script h act (Writes xs) t e w = grounded_more h xs (act_grounded script h xs act t (outcome_fits script h xs act e)) w
 outcome_grounded script h act (Answers a) t e w = rw append-nil w
 
-act_grounds : (script : Script) (h : History) (act : Act) → is_taking act ≡ false → Grounded h → Grounded (h ++ lines_in (act_outcome script h act))
+act_grounds : (script : Script) (h : History) (act : Act) → is_taking act ≡ false → NoneFlies h → NoneFlies (h ++ lines_in (act_outcome script h act))
 act_grounds script h act t w = outcome_grounded script h act (act_outcome script h act) t refl w
 
 pub data TakeCase (script : Script) (h : History) (l : Lane) (xs : History) : Type 0 where
@@ -281,11 +280,11 @@ take_case script h lines act l legal t (settles s e) = absurd (none_lane l t)
 take_case script h lines act l legal t (orders force due e p d z) = absurd (none_lane l t)
 take_case script h lines act l legal t (orders_forced due e p d q z) = absurd (none_lane l t)
 
-land_from_list : (script : Script) (l : Lane) (g : History) (k : ℕ) (xs ks : List ℕ) → xs ≡ k ∷ ks → land_from script l g xs ≡ land_marked script l k (mark g k)
+land_from_list : (script : Script) (l : Lane) (g : History) (k : ℕ) (xs ks : List ℕ) → xs ≡ k ∷ ks → land_from script l g xs ≡ land_marked l (planned script l k) k (mark g k)
 land_from_list script l g k xs ks e = rw e refl
 
 -- the line of a landing right after the flight
-landing_line : (script : Script) (h : History) (l : Lane) (k : ℕ) → k < made (past l h) → Grounded h → LandLine l k (work script (h ++ bare (Flying l k) ∷ []) (Work.Land l))
+landing_line : (script : Script) (h : History) (l : Lane) (k : ℕ) → k < made (past l h) → NoneFlies h → LandLine l k (work script (h ++ bare (Flying l k) ∷ []) (Work.Land l))
 landing_line script h l k low w =
     subst (LandLine l k) (sym (ap (λ g. land_flight script l g) (own_past h (bare (Flying l k)) l (same_lane_same l)) ∙ land_from_list script l (bare (Flying l k) ∷ past l h) k (flying (bare (Flying l k) ∷ past l h)) c.rest c.is))
     (land_line script l k (mark (bare (Flying l k) ∷ past l h) k))
@@ -293,11 +292,11 @@ landing_line script h l k low w =
     test : ℕ → Bool
     test j = k == j || flies (past l h) j
 
-    c : Rattle.un_journal.proofs.Unique.Cons (flying (bare (Flying l k) ∷ past l h)) k
+    c : Cons (flying (bare (Flying l k) ∷ past l h)) k
     c = cons_from (flying (bare (Flying l k) ∷ past l h)) k
         (those_first_is test (made (past l h)) k (rw (eq-eqb k k refl) refl) low (λ j h'. rw (ne_eqb k j (λ e. omega arith)) (w l j)))
 
-move_lines : (script : Script) (h : History) (l : Lane) (k : ℕ) (e : Entry) → ((i : Lane) → concerns i e ≡ same_lane i l) → ((g : History) (j : ℕ) → flies g j ≡ false → flies (e ∷ (bare (Flying l k) ∷ g)) j ≡ false) → Grounded h → Grounded (h ++ (bare (Flying l k) ∷ e ∷ []))
+move_lines : (script : Script) (h : History) (l : Lane) (k : ℕ) (e : Entry) → ((i : Lane) → concerns i e ≡ same_lane i l) → ((g : History) (j : ℕ) → flies g j ≡ false → flies (e ∷ (bare (Flying l k) ∷ g)) j ≡ false) → NoneFlies h → NoneFlies (h ++ (bare (Flying l k) ∷ e ∷ []))
 move_lines script h l k e own grounds w i j =
     rw (past_onto i h (bare (Flying l k) ∷ e ∷ []), filter_of l i (bare (Flying l k) ∷ e ∷ []) (λ q. refl, (own, tt))) (go (same_lane i l))
   where
@@ -305,26 +304,26 @@ move_lines script h l k e own grounds w i j =
     go true = grounds (past i h) j (w i j)
     go false = w i j
 
-move_from : (script : Script) (h : History) (l : Lane) (xs : History) → Grounded h → TakeCase script h l xs → Grounded (h ++ (xs ++ lines_in (work script (h ++ xs) (Work.Land l))))
+move_from : (script : Script) (h : History) (l : Lane) (xs : History) → NoneFlies h → TakeCase script h l xs → NoneFlies (h ++ (xs ++ lines_in (work script (h ++ xs) (Work.Land l))))
 move_from script h l xs w (cut_one k c e) =
-    subst (λ ys. Grounded (h ++ (ys ++ lines_in (work script (h ++ ys) (Work.Land l))))) (sym e)
-    (subst (λ ys. Grounded (h ++ (bare (Cut l k c) ∷ ys))) (sym idle) grounds)
+    subst (λ ys. NoneFlies (h ++ (ys ++ lines_in (work script (h ++ ys) (Work.Land l))))) (sym e)
+    (subst (λ ys. NoneFlies (h ++ (bare (Cut l k c) ∷ ys))) (sym idle) grounds)
   where
-    grounds : Grounded (h ++ bare (Cut l k c) ∷ [])
+    grounds : NoneFlies (h ++ bare (Cut l k c) ∷ [])
     grounds = grounded_more h (bare (Cut l k c) ∷ []) (refl, tt) w
 
     idle : lines_in (work script (h ++ bare (Cut l k c) ∷ []) (Work.Land l)) ≡ []
     idle = ap (λ ks. lines_in (land_from script l (past l (h ++ bare (Cut l k c) ∷ [])) ks)) (those_empty_below (flies (past l (h ++ bare (Cut l k c) ∷ []))) (made (past l (h ++ bare (Cut l k c) ∷ []))) (λ j i. grounds l j))
 move_from script h l xs w (flew_one k low e) =
-    subst (λ ys. Grounded (h ++ (ys ++ lines_in (work script (h ++ ys) (Work.Land l))))) (sym e)
+    subst (λ ys. NoneFlies (h ++ (ys ++ lines_in (work script (h ++ ys) (Work.Land l))))) (sym e)
     (let r = landing_line script h l k low w in
-    subst (λ ys. Grounded (h ++ (bare (Flying l k) ∷ ys))) (sym (ap lines_in r.is_line)) (move_lines script h l k r.line r.own r.grounds w))
+    subst (λ ys. NoneFlies (h ++ (bare (Flying l k) ∷ ys))) (sym (ap lines_in r.is_line)) (move_lines script h l k r.line r.own r.grounds w))
 
-move_grounds : (script : Script) (h : History) (l : Lane) (o : Outcome) → Legal script h → work script h (Work.Take l) ≡ o → Grounded h → Grounded (h ++ lines_in (move_after script l h o))
+move_grounds : (script : Script) (h : History) (l : Lane) (o : Outcome) → Legal script h → work script h (Work.Take l) ≡ o → NoneFlies h → NoneFlies (h ++ lines_in (move_after script l h o))
 move_grounds script h l (Answers a) legal e w = rw append-nil w
 move_grounds script h l (Writes xs) legal e w = move_from script h l xs w (take_case script h xs (Works (Work.Take l)) l legal refl (outcome_fits script h xs (Works (Work.Take l)) e))
 
-pub step_grounds : (script : Script) (h : History) (action : Action) → Legal script h → Grounded h → Grounded (h ++ step_of script h action)
+pub step_grounds : (script : Script) (h : History) (action : Action) → Legal script h → NoneFlies h → NoneFlies (h ++ step_of script h action)
 step_grounds script h (Action.Offer lane sender) legal w = act_grounds script h (Works (Work.Offer lane sender)) refl w
 step_grounds script h (Action.Tick lane) legal w = act_grounds script h (Works (Work.Tick lane)) refl w
 step_grounds script h (Action.Move lane) legal w = move_grounds script h lane (work script h (Work.Take lane)) legal refl w
@@ -337,14 +336,14 @@ step_grounds script h (Action.ClearHalt lane) legal w = act_grounds script h (Wo
 step_grounds script h (Action.Control force) legal w = act_grounds script h (Controls force) refl w
 step_grounds script h Action.Settle legal w = act_grounds script h (Works Work.Settle) refl w
 
-pub run_grounds : (script : Script) (h : History) (actions : List Action) → Legal script h → Grounded h → Grounded (run script h actions)
+pub run_grounds : (script : Script) (h : History) (actions : List Action) → Legal script h → NoneFlies h → NoneFlies (run script h actions)
 run_grounds script h [] legal w = w
 run_grounds script h (a ∷ rest) legal w = run_grounds script (h ++ step_of script h a) rest (legal_step script h a legal) (step_grounds script h a legal w)
 
-pub drain_grounds : (n : ℕ) (script : Script) (h : History) → Legal script h → Grounded h → Grounded (drain_in n script h)
+pub drain_grounds : (n : ℕ) (script : Script) (h : History) → Legal script h → NoneFlies h → NoneFlies (drain_in n script h)
 drain_grounds zero script h legal w = w
 drain_grounds (suc n) script h legal w =
-    drain_cases Grounded (same_length h (run script h round)) (same_length h (h ++ step_of script h (Action.Control true))) _ _ _
+    drain_cases NoneFlies (same_length h (run script h round)) (same_length h (h ++ step_of script h (Action.Control true))) _ _ _
     (λ a. drain_grounds n script (run script h round) (legal_run script h round legal) (run_grounds script h round legal w))
     (λ a b. drain_grounds n script (h ++ step_of script h (Action.Control true)) (legal_step script h (Action.Control true) legal) (step_grounds script h (Action.Control true) legal w))
     (λ a b. w)
@@ -390,10 +389,10 @@ pub four_feeds : (script : Script) (l : Lane) → length (feeds_of script l) ≤
 four_feeds script Outward = omega arith
 four_feeds script Inward = omega arith
 
-pub land_idle : (script : Script) (h : History) (l : Lane) → Grounded h → lines_in (work script h (Work.Land l)) ≡ []
+pub land_idle : (script : Script) (h : History) (l : Lane) → NoneFlies h → lines_in (work script h (Work.Land l)) ≡ []
 land_idle script h l w = ap (λ ks. lines_in (land_from script l (past l h) ks)) (those_empty_below (flies (past l h)) (made (past l h)) (λ j i. w l j))
 
-module _ (script : Script) (h : History) (legal : Legal script h) (w : Grounded h) (idle : AllIdle script h round) (last : step_of script h (Action.Control true) ≡ []) where
+module _ (script : Script) (h : History) (legal : Legal script h) (w : NoneFlies h) (idle : AllIdle script h round) (last : step_of script h (Action.Control true) ≡ []) where
   offer_idle : (l : Lane) (s : ℕ) → s < 4 → lines_in (work script h (Work.Offer l s)) ≡ []
   offer_idle Outward zero k = idle.1.1.1.0
   offer_idle Outward (suc zero) k = idle.1.1.1.1.0
@@ -431,7 +430,7 @@ module _ (script : Script) (h : History) (legal : Legal script h) (w : Grounded 
   none_left (Controls false) lines f = no_fit script h lines (Controls false) legal idle.0 f
   none_left (Controls true) lines f = no_fit script h lines (Controls true) legal last f
 
-pub drain_done : (script : Script) (h : History) → Legal script h → Grounded h → IsDone script (drain script h)
+pub drain_done : (script : Script) (h : History) → Legal script h → NoneFlies h → IsDone script (drain script h)
 drain_done script h legal w = record { is_legal = legal'; none_fits = none_left script d legal' (drain_grounds (line_bound script + 1) script h legal w) (all_idle script d round (not_longer d (run script d round) e.round_still)) (step_idle d (step_of script d (Action.Control true)) (not_longer d _ e.control_still)) }
   where
     d : History

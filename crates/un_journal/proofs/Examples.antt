@@ -19,7 +19,8 @@ use Rattle.un_journal.specs.declared.actions.Answer.{Answer}
 use Rattle.un_journal.specs.Script.{Script, Feeds, Frame}
 use Rattle.un_journal.specs.History.{History, Entry, past, taken, given}
 use Rattle.un_journal.specs.Lookup.{phase_of}
-use Rattle.un_journal.specs.Step.{bare, Outcome, lines_in, answer_in, Work, work, outcome, answer_of}
+use Rattle.un_journal.specs.LaneSteps.{bare, Outcome, lines_in, answer_in}
+use Rattle.un_journal.specs.Step.{Work, work, outcome, answer_of}
 use Rattle.un_journal.specs.Drain.{drain}
 
 -- FRAMES, SCRIPTS, CALLS
@@ -190,7 +191,7 @@ sleep_between = record {
   faults = [];
 }
 
--- the outward lines of queueing and flying from the resume on
+-- the outward lines of making and flying
 abbrev queueing : List Line → List Line
 queueing [] = []
 queueing (Line.Made Outward k a b ∷ ls) = Line.Made Outward k a b ∷ queueing ls
@@ -221,6 +222,9 @@ sleep_between_busy = refl
 
 sleep_between_given : given (past Outward (drain sleep_between [])) ≡ 0 ∷ 1 ∷ 2 ∷ 3 ∷ 4 ∷ 5 ∷ []
 sleep_between_given = refl
+
+sleep_between_taken : taken (past Outward (drain sleep_between [])) ≡ 6
+sleep_between_taken = refl
 
 -- A HALT
 
@@ -271,6 +275,10 @@ stopped_in_flight_lines : from_did (lines_of stopped_in_flight_calls.history)
     ∷ Line.Control 1 false ∷ Line.Posted Outward ∷ Line.Took Outward 0 ∷ Line.Made Outward 1 1 2 ∷ Line.Flying Outward 1 ∷ Line.Landed Outward 1
     ∷ Line.TxHome Outward 1 ∷ Line.Opened Outward 1 ∷ Line.Gave Outward 1 ∷ []
 stopped_in_flight_lines = refl
+
+stopped_in_flight_given : given_in stopped_in_flight_calls.history ≡ frame_of 60 ∷ []
+unfolding datagram_of
+stopped_in_flight_given = refl
 
 -- AN UNPLUG WITH ALL KINDS OF WORK OUT
 

@@ -19,7 +19,8 @@ use Rattle.un_journal.specs.declared.controls.Due.{Due}
 use Rattle.un_journal.specs.Script.{Script, Frame, tx_size, rx_size}
 use Rattle.un_journal.specs.History.{History, past, first, taken, made, cover, built, took_last, posted, flies, flying, waits, waiting, ended, landed, failed, was_cut, opened, gave, arrived, current, left_of, is_empty, delivered, mark, returned, halted, serial_of, dropped, for_serial}
 use Rattle.un_journal.specs.Lookup.{phase_of, works, is_awake, is_asleep, is_stopping, is_leaving, controls_done, feed_head, tx_home, rx_home, offer_needs_home, tick_needs_home, pending, queued, unmarked, span_after_took, block_open}
-use Rattle.un_journal.specs.Step.{Work, work, Outcome, Writes, Answers, is_still, lane_works, quiet, all_home, hinders, is_due}
+use Rattle.un_journal.specs.LaneSteps.{Outcome, Writes, Answers}
+use Rattle.un_journal.specs.Step.{Work, work, is_still, lane_works, quiet, all_home, hinders, is_due, land_from}
 use Rattle.un_journal.proofs.Ranges.{HavePools}
 use Rattle.un_journal.specs.Done.{IsSpread, IsGivenOut, IsStuck, IsFinished, is_gone}
 use Rattle.un_journal.specs.Sums.{claim}
@@ -35,6 +36,8 @@ use Rattle.un_journal.proofs.Complete.{outcome_fits}
 use Rattle.un_journal.proofs.Rules.{AllRuled, legal_ruled}
 use Rattle.un_journal.proofs.Homes.{HomeSums, legal_sums, those_same, landings, landed_count, one_if, ends_made, returned_ends, ended_below, below_ended}
 use Rattle.un_journal.proofs.Calm.{CalmLane, legal_calm}
+use Rattle.un_journal.specs.Sound.{IsSound}
+use Rattle.un_journal.proofs.Unique.{those_empty_below}
 
 and_not : (l o : Bool) → (l && not o) ≡ false → l ≡ true → o ≡ true
 and_not true true e h = refl
@@ -91,7 +94,7 @@ over_spread true x c false e h = absurd (false≢true (h refl))
 over_spread false x c true e h = refl
 over_spread false x c false e h = e
 
-pub spread : (g : History) → Rattle.un_journal.specs.Sound.IsSound g → IsGivenOut g → built g ≡ 0 → ends g ≡ made g → IsSpread g
+pub spread : (g : History) → IsSound g → IsGivenOut g → built g ≡ 0 → ends g ≡ made g → IsSpread g
 spread g sound out empty over n h = go (serial_of g n) refl
   where
     low : n < cover g
@@ -120,7 +123,7 @@ spread g sound out empty over n h = go (serial_of g n) refl
 -- NO STEP FITS
 
 module _ (script : Script) (h : History) (pools : HavePools script.params) (legal : Legal script h) (none : (act : Act) (lines : History) → Fits script h act lines → ⊥) where
-  sound : (l : Lane) → Rattle.un_journal.specs.Sound.IsSound (past l h)
+  sound : (l : Lane) → IsSound (past l h)
   sound l = (legal_good script h legal).sound l
 
   sums : (l : Lane) → HomeSums script.params l (past l h)
@@ -136,7 +139,7 @@ module _ (script : Script) (h : History) (pools : HavePools script.params) (lega
       go [] e = e
       go (k ∷ ks) e =
           let r = land_line script l k (mark (past l h) k) in
-          absurd (none (Works (Work.Land l)) _ (outcome_fits script h (r.line ∷ []) (Works (Work.Land l)) (ap (λ xs. Rattle.un_journal.specs.Step.land_from script l (past l h) xs) e ∙ r.is_line)))
+          absurd (none (Works (Work.Land l)) _ (outcome_fits script h (r.line ∷ []) (Works (Work.Land l)) (ap (λ xs. land_from script l (past l h) xs) e ∙ r.is_line)))
 
   grounded : (l : Lane) (k : ℕ) → flies (past l h) k ≡ false
   grounded l k = none_flies (past l h) (sound l) (flight_none l) k
@@ -364,7 +367,7 @@ module _ (script : Script) (h : History) (pools : HavePools script.params) (lega
       let high : ends (past l h) + one_if (is_up (past l h)) ≤ made (past l h) = ends_made (past l h) (sound l) in omega arith
 
   over_waiting : (l : Lane) → ends (past l h) ≡ made (past l h) → waiting (past l h) ≡ []
-  over_waiting l e = Rattle.un_journal.proofs.Unique.those_empty_below (waits (past l h)) (made (past l h)) (λ j i. rw (grounded l j, below_ended (past l h) (sound l) j (omega arith)) refl)
+  over_waiting l e = those_empty_below (waits (past l h)) (made (past l h)) (λ j i. rw (grounded l j, below_ended (past l h) (sound l) j (omega arith)) refl)
 
   -- CONTROLS
 

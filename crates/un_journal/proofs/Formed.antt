@@ -23,14 +23,16 @@ use Rattle.un_journal.specs.declared.controls.Due.{Due}
 use Rattle.un_journal.specs.Script.{Script, Frame}
 use Rattle.un_journal.specs.History.{Entry, History, past, concerns, taken, made, cover, built, span, span_numbers, made_bytes, told_if, left_of, first, gave, posted}
 use Rattle.un_journal.specs.Lookup.{phase_of, controls_done, feed_head, datagrams, span_after_took, deferred, unmarked}
-use Rattle.un_journal.specs.Step.{bare, made_if, datagram_bytes, span_start, order_lines, cut_each, marked_each, recalled_each, dropped_built}
+use Rattle.un_journal.specs.LaneSteps.{bare, datagram_bytes, span_start}
+use Rattle.un_journal.specs.Step.{made_if, order_lines, cut_each, marked_each, recalled_each, dropped_built, made_entry, settled_line}
 use Rattle.un_journal.specs.Bytes.{AreDatagrams}
 use Rattle.un_journal.proofs.Transfers.{FramesFit, AreFrames, WireHolds, fit_more, part_is}
 use Rattle.un_journal.specs.Fits.{Act, Fits, takes, refuses, waits_once, closes, begins_flight, cuts_queued, lands, fails, cuts_flight, comes_home, opens, gives, posts_one, marks, recalls_one, clears, settles, orders, orders_forced, Legal, begins, goes_on, after_took}
 use Rattle.un_journal.proofs.Lists.{row_first, same_lane_true}
 use Rattle.un_journal.proofs.Given.{cover_below}
 use Rattle.un_journal.proofs.Steps.{Good, legal_good}
-use Rattle.un_journal.proofs.Rules.{onto, onto_append, filter_onto, past_onto, AllOf, filter_of, made_of, stop_part, order_part, order_filter, pick}
+use Rattle.un_journal.proofs.Onto.{onto, onto_append, past_onto, AllOf, filter_of}
+use Rattle.un_journal.proofs.Rules.{made_of, stop_part, order_part, order_filter, pick, onto_cut}
 
 -- LISTS
 
@@ -333,7 +335,7 @@ part_given params ds bytes k n s wire good w low high =
     found : slice_get frames (n - s.0) ≡ slice_get ds n
     found = slice_take (s.1 - s.0) (n - s.0) (drop s.0 ds) (omega arith) ∙ (slice_drop s.0 (n - s.0) ds ∙ ap (slice_get ds) place)
 
-formed_gave : (script : Script) (l l' : Lane) (k n : ℕ) (g : History) → WireHolds script.params → first (left_of g k) ≡ Some n → Formed script l g → Formed script l ((Gave l' n, datagram_bytes script g k n) ∷ g)
+formed_gave : (script : Script) (l l' : Lane) (k n : ℕ) (g : History) → WireHolds script.params → first (left_of g k) ≡ Some n → Formed script l g → Formed script l ((Gave l' n, datagram_bytes script.params g k n) ∷ g)
 formed_gave script l l' k n g wire e w = record {
   kept = record { good = w.kept.good; made_well = w.kept.made_well; gave_well = (go (span g k) refl e, w.kept.gave_well) };
   built_fit = w.built_fit;
@@ -371,7 +373,7 @@ formed_drop script l c g g' t w = go (built g == 0)
 formed_stop : (script : Script) (l : Lane) (c : ℕ) (phase : Phase) (g : History) → Formed script l g → Formed script l (onto (stop_part l c phase g) g)
 formed_stop script Outward c phase g w =
     subst (Formed script Outward) (sym (onto_append (cut_each Outward c (deferred phase Outward g)) (dropped_built Outward c g) g))
-    (formed_drop script Outward c g _ (Rattle.un_journal.proofs.Rules.onto_cut taken Outward c (λ k i. refl) (deferred phase Outward g) g) (formed_cut script Outward c (deferred phase Outward g) g w))
+    (formed_drop script Outward c g _ (onto_cut taken Outward c (λ k i. refl) (deferred phase Outward g) g) (formed_cut script Outward c (deferred phase Outward g) g w))
 formed_stop script Inward c phase g w = formed_drop script Inward c g g refl w
 
 formed_order : (script : Script) (order : Order) (l : Lane) (c : ℕ) (phase : Phase) (g : History) → Formed script l g → Formed script l (onto (order_part order l c phase g) g)
@@ -426,9 +428,9 @@ step_formed script h lines act wire good w (refuses lane sender frame why wk e v
 step_formed script h lines act wire good w (waits_once lane p) l = one_formed script lane l _ h refl (λ i. refl) (w l)
 step_formed script h lines act wire good w (closes lane b p n) l =
     lane_formed script lane l _ h (λ i. refl, tt)
-    (λ same. subst (λ i. Formed script i (Rattle.un_journal.specs.Step.made_entry script lane (past lane h) (cover (past lane h), taken (past lane h)) ∷ past i h)) (sym same) (closed (past lane h) (w lane) b)) (w l)
+    (λ same. subst (λ i. Formed script i (made_entry script lane (past lane h) (cover (past lane h), taken (past lane h)) ∷ past i h)) (sym same) (closed (past lane h) (w lane) b)) (w l)
   where
-    closed : (g : History) → Formed script lane g → 0 < built g → Formed script lane (Rattle.un_journal.specs.Step.made_entry script lane g (cover g, taken g) ∷ g)
+    closed : (g : History) → Formed script lane g → 0 < built g → Formed script lane (made_entry script lane g (cover g, taken g) ∷ g)
     closed g f some =
         let n : length (datagrams script lane g) ≡ taken g = count_datagrams script lane g in
         let c : length (drop (cover g) (datagrams script lane g)) ≡ length (datagrams script lane g) - cover g = length-drop (cover g) (datagrams script lane g) in
@@ -450,12 +452,12 @@ step_formed script h lines act wire good w (comes_home lane e) l = one_formed sc
 step_formed script h lines act wire good w (opens lane k none e) l = one_formed script lane l _ h refl (λ i. refl) (w l)
 step_formed script h lines act wire good w (gives lane k n c e) l =
     lane_formed script lane l _ h (λ i. refl, tt)
-    (λ same. subst (λ i. Formed script i ((Gave lane n, datagram_bytes script (past lane h) k n) ∷ past i h)) (sym same) (formed_gave script lane lane k n (past lane h) wire e (w lane))) (w l)
+    (λ same. subst (λ i. Formed script i ((Gave lane n, datagram_bytes script.params (past lane h) k n) ∷ past i h)) (sym same) (formed_gave script lane lane k n (past lane h) wire e (w lane))) (w l)
 step_formed script h lines act wire good w (posts_one lane a r) l = one_formed script lane l _ h refl (λ i. refl) (w l)
 step_formed script h lines act wire good w (marks lane k s e) l = one_formed script lane l _ h refl (λ i. refl) (w l)
 step_formed script h lines act wire good w (recalls_one lane s e p) l = one_formed script lane l _ h refl (λ i. refl) (w l)
 step_formed script h lines act wire good w (clears lane a e) l = one_formed script lane l _ h refl (λ i. refl) (w l)
-step_formed script h lines act wire good w (settles s e) l = rw (past_onto l h (bare (Rattle.un_journal.specs.Step.settled_line script h) ∷ [])) (formed_neutral script l (bare (Rattle.un_journal.specs.Step.settled_line script h)) (past l h) refl (w l))
+step_formed script h lines act wire good w (settles s e) l = rw (past_onto l h (bare (settled_line script h) ∷ [])) (formed_neutral script l (bare (settled_line script h)) (past l h) refl (w l))
 step_formed script h lines act wire good w (orders force due e p d z) l = order_formed script h false due l (w l)
 step_formed script h lines act wire good w (orders_forced due e p d q z) l = order_formed script h true due l (w l)
 

@@ -4,7 +4,8 @@ use Rattle.un_frame.specs.declared.params.Lane.{Lane}
 use Rattle.un_journal.specs.declared.actions.Action.{Action}
 use Rattle.un_journal.specs.Script.{Script}
 use Rattle.un_journal.specs.History.{History}
-use Rattle.un_journal.specs.Step.{Outcome, Writes, Answers, lines_in, Work, work, move_after, step_of}
+use Rattle.un_journal.specs.LaneSteps.{Outcome, Writes, Answers, lines_in}
+use Rattle.un_journal.specs.Step.{Work, work, move_after, step_of}
 use Rattle.un_journal.specs.Fits.{Act, Works, Controls, Legal, goes_on, act_outcome}
 use Rattle.un_journal.specs.Drain.{run, round, drain_in, drain, same_length}
 use Rattle.un_journal.proofs.Complete.{outcome_fits}

@@ -9,7 +9,7 @@ use Rattle.un_frame.specs.declared.params.Params.{Params}
 use Rattle.un_frame.specs.Lanes.{packs}
 use Rattle.un_journal.specs.declared.lines.Line.TheVariants.{Took, Made, Posted, Flying, Landed, Failed, Cut, Dropped, TxHome, Gave, Recalled}
 use Rattle.un_journal.specs.Script.{Script, tx_size, rx_size}
-use Rattle.un_journal.specs.History.{Entry, History, past, concerns, those, taken, made, cover, built, took_last, posts, recalls, flights, failures, flight_cuts, posted, flies, waits, ended, landed, failed, was_cut, opened, gave, span, span_numbers, left_of, is_empty, delivered, returned, told_if}
+use Rattle.un_journal.specs.History.{Entry, History, past, concerns, those, taken, made, cover, took_last, posts, recalls, flights, failures, flight_cuts, posted, flies, ended, landed, failed, was_cut, gave, span, span_numbers, left_of, is_empty, delivered, returned, more_if}
 use Rattle.un_journal.specs.Lookup.{phase_after, block_claims, tx_home, rx_home}
 use Rattle.un_journal.specs.Step.{all_home, away}
 use Rattle.un_journal.specs.Sums.{claim, rx_back}
@@ -88,7 +88,7 @@ flight_sum ((Failed l k kind, bytes) ∷ g) sound =
 flight_sum ((Cut l k c, bytes) ∷ g) sound = go sound.0 (flight_sum g sound.1)
   where
     go : (flies g k ≡ true) ⊎ IsNext g k → flights g ≡ landings g + failures g + flight_cuts g + one_if (is_up g)
-        → flights g ≡ landings g + failures g + Rattle.un_journal.specs.History.more_if (flies g k) (flight_cuts g) + 0
+        → flights g ≡ landings g + failures g + more_if (flies g k) (flight_cuts g) + 0
     go (inl f) e = let up : one_if (is_up g) ≡ 1 = ap one_if (up_of g sound.1 k f) in rw f (omega arith)
     go (inr n) e = let none : one_if (is_up g) ≡ 0 = ap one_if (none_up g sound.1 (in_order g sound.1) k n) in rw (n.is_alone k) (omega arith)
 flight_sum (e ∷ g) sound = flight_sum g sound.1
@@ -263,7 +263,7 @@ delivered_grows (Gave l m, bytes) g sound =
     both _ _ r.0 (filter_less (λ n. not (gave g n)) (λ n. not (m == n || gave g n)) (span_numbers (span g k)) (λ n e. not_gave m n (gave g n) e) r.1))
 delivered_grows (e, bytes) g sound = omega arith
 
-pub more_least : (b : Bool) (n : ℕ) → n ≤ Rattle.un_journal.specs.History.more_if b n
+pub more_least : (b : Bool) (n : ℕ) → n ≤ more_if b n
 more_least true n = omega arith
 more_least false n = omega arith
 
@@ -275,7 +275,7 @@ rx_least script l ((Recalled l', bytes) ∷ g) sound all = let e : posts g ≤ r
 rx_least script l ((Failed l' k kind, bytes) ∷ g) sound all = let e : posts g ≤ rx_back script.params l g = rx_least script l g sound.1 all.1 in omega arith
 rx_least script l ((Cut l' k c, bytes) ∷ g) sound all =
     let e : posts g ≤ rx_back script.params l g = rx_least script l g sound.1 all.1 in
-    let more : flight_cuts g ≤ Rattle.un_journal.specs.History.more_if (flies g k) (flight_cuts g) = more_least (flies g k) (flight_cuts g) in omega arith
+    let more : flight_cuts g ≤ more_if (flies g k) (flight_cuts g) = more_least (flies g k) (flight_cuts g) in omega arith
 rx_least script l ((Made l' j a b, bytes) ∷ g) sound all =
     let e : posts g ≤ rx_back script.params l g = rx_least script l g sound.1 all.1 in
     let more : length (delivered g) ≤ length (delivered ((Made l' j a b, bytes) ∷ g)) = delivered_grows (Made l' j a b, bytes) g sound in omega arith

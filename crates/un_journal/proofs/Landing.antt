@@ -6,7 +6,7 @@ use Rattle.un_frame.specs.Lanes.{same_lane}
 use Rattle.un_journal.specs.declared.lines.Line.TheVariants.{Flying, Landed, Failed, Cut}
 use Rattle.un_journal.specs.Script.{Script, planned}
 use Rattle.un_journal.specs.History.{Entry, History, concerns, flies}
-use Rattle.un_journal.specs.Step.{Outcome, Writes, bare, land_marked, land_planned}
+use Rattle.un_journal.specs.LaneSteps.{Outcome, Writes, bare, land_marked, land_planned}
 
 pub record LandLine (l : Lane) (k : ℕ) (o : Outcome) : Type 0 where
   pub line : Entry
@@ -31,6 +31,6 @@ planned_line : (l : Lane) (k : ℕ) (p : Option FaultKind) → LandLine l k (lan
 planned_line l k None = landed_line l k
 planned_line l k (Some kind) = failed_line l k kind
 
-pub land_line : (script : Script) (l : Lane) (k : ℕ) (m : Option ℕ) → LandLine l k (land_marked script l k m)
+pub land_line : (script : Script) (l : Lane) (k : ℕ) (m : Option ℕ) → LandLine l k (land_marked l (planned script l k) k m)
 land_line script l k (Some c) = cut_line l k c
 land_line script l k None = planned_line l k (planned script l k)

@@ -12,6 +12,7 @@ pub mod Going
 pub mod Delivery
 pub mod Licences
 pub mod BaseWords
+pub mod Onto
 pub mod Rules
 pub mod Homes
 pub mod Calm
@@ -27,8 +28,13 @@ pub mod Moments
 pub mod Room
 pub mod Landing
 pub mod Counts
+pub mod Spelled
+pub mod LaneFacts
+pub mod LinkFacts
 pub mod Examples
 pub mod Entries
 pub mod Hexes
 pub mod TextLemmas
 pub mod WroteLemmas
+pub mod TextCuts
+pub mod TextReads

@@ -14,12 +14,18 @@ use Rattle.un_journal.specs.declared.controls.Due.{Due}
 use Rattle.un_journal.specs.Script.{Script, tx_size, rx_size}
 use Rattle.un_journal.specs.History.{Entry, History, past, concerns, mark, told_if}
 use Rattle.un_journal.specs.Lookup.{phase_of, phase_after, after_order, after_control, after_settled, controls_done, is_stopping, is_leaving}
-use Rattle.un_journal.specs.Licence.{Cuts, Stops, IsCause, IsOrder, Licensed, AllLicensed}
+use Rattle.un_journal.specs.Licence.{Cuts, Stops, IsCause, IsOrder, Licensed}
 use Rattle.un_journal.specs.History.{built, cover, taken}
 use Rattle.un_journal.specs.Lookup.{deferred, tx_home, rx_home}
-use Rattle.un_journal.specs.Step.{bare, made_if, cut_each, marked_each, recalled_each, dropped_built, order_lines}
+use Rattle.un_journal.specs.LaneSteps.{bare}
+use Rattle.un_journal.specs.Step.{made_if, cut_each, marked_each, recalled_each, dropped_built, order_lines}
 use Rattle.un_journal.specs.Fits.{Act, Fits, takes, refuses, waits_once, closes, begins_flight, cuts_queued, lands, fails, cuts_flight, comes_home, opens, gives, posts_one, marks, recalls_one, clears, settles, orders, orders_forced, Legal, begins, goes_on, after_took}
 use Rattle.un_journal.proofs.Lists.{same_lane_true}
+
+-- every line is licensed at its place
+abbrev pub AllLicensed : Script → History → Type 0
+AllLicensed script [] = Unit {0}
+AllLicensed script (e ∷ older) = Licensed script older e × AllLicensed script older
 
 -- a later line takes no control back
 later_done : (e : Entry) (older : History) → controls_done older ≤ controls_done (e ∷ older)

@@ -17,14 +17,14 @@ use Rattle.un_journal.specs.Script.{Script, Frame, frames_of, planned, planned_i
 use Rattle.un_journal.specs.History.{History, past, concerns, taken, consumed, failed, was_cut, dropped, gave, given, serial_of, for_serial, row_from, more_if}
 use Rattle.un_journal.specs.Lookup.{phase_of, phase_after, after_order, after_control, is_awake, is_stopping, is_leaving, controls_done, feed_head}
 use Rattle.un_journal.specs.Places.{IsRising, IsBelowAll, IsAllBelow}
-use Rattle.un_journal.specs.Licence.{Cuts, Stops, AllLicensed}
+use Rattle.un_journal.specs.Licence.{Cuts, Stops}
 use Rattle.un_journal.proofs.Ranges.{HavePools}
 use Rattle.un_journal.specs.Done.{IsFinished, IsSpread}
 use Rattle.un_journal.specs.Loss.{LosesNothing, is_take, accepted, good_frames}
 use Rattle.un_journal.specs.Fits.{IsDone}
 use Rattle.un_journal.proofs.Given.{given_rises, given_taken}
-use Rattle.un_journal.proofs.Steps.{legal_good}
-use Rattle.un_journal.proofs.Licences.{legal_licensed}
+use Rattle.un_journal.proofs.Steps.{legal_good, Good}
+use Rattle.un_journal.proofs.Licences.{AllLicensed, legal_licensed}
 use Rattle.un_journal.proofs.Rules.{AllRuled, legal_ruled}
 use Rattle.un_journal.proofs.Homes.{AllLane, lane_ruled}
 use Rattle.un_journal.proofs.Calm.{has}
@@ -261,7 +261,7 @@ nothing_lost script h pools w d l = record {
       ∙ ap (good_frames script.params l) (take_all (consumed (past l h) sender) (frames_of script l sender) (f.consumed_up up l sender));
 }
   where
-    good : Rattle.un_journal.proofs.Steps.Good script h
+    good : Good script h
     good = legal_good script h d.is_legal
 
     ruled : AllRuled script (reverse h)

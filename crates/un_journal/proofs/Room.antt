@@ -18,7 +18,8 @@ use Rattle.un_journal.specs.Fits.{Legal}
 use Rattle.un_journal.proofs.Given.{front, in_front, next_above, cover_below}
 use Rattle.un_journal.proofs.Legal.{empty_is}
 use Rattle.un_journal.proofs.Steps.{legal_good}
-use Rattle.un_journal.proofs.Rules.{AllRuled, legal_ruled, onto, reverse_onto}
+use Rattle.un_journal.proofs.Onto.{onto, reverse_onto}
+use Rattle.un_journal.proofs.Rules.{AllRuled, legal_ruled}
 use Rattle.un_journal.proofs.Homes.{AllLane, lane_ruled}
 use Rattle.un_journal.proofs.Bound.{total, head_within}
 use Rattle.un_journal.proofs.Formed.{count_datagrams, frames_more, frames_within, frames_taken, good_length, legal_formed}
@@ -87,7 +88,7 @@ gave_size [] = 0
 gave_size ((Gave l n, bytes) ∷ g) = gave_size g + length bytes
 gave_size (e ∷ g) = gave_size g
 
-lane_frames : (script : Script) (l : Lane) (g : History) → AllLane script l g → AreFrames script.params (datagrams script l g)
+pub lane_frames : (script : Script) (l : Lane) (g : History) → AllLane script l g → AreFrames script.params (datagrams script l g)
 lane_frames script l [] all = tt
 lane_frames script l ((Took l' s, bytes) ∷ g) all =
     let r = all.0.rule in

@@ -1,7 +1,6 @@
 -- What every line of a legal history needs of the script, of the phase and of its lane's lines before it.
-use Rattle.std.proofs.Common.{◌≡◌, ◌≢◌, ℕ, zero, suc, ◌+◌, ◌-◌, ◌<◌, ◌≤◌, Bool, true, false, not, ◌&&◌, ◌||◌, ◌==◌, List, [], ◌∷◌, ◌++◌, Option, Some, None, ◌⊎◌, inl, inr, refl, sym, ap, ◌∙◌, subst, arith, if◌then◌else◌, slice_get, filter, reverse, append_assoc, append-nil, nat_lt, is_some, take}
-use Rattle.std.proofs.lemmas.Bool.{false≢true, eqb-true, and_parts, eqb-false}
-use Rattle.std.proofs.lemmas.List.{reverse-append}
+use Rattle.std.proofs.Common.{◌≡◌, ◌≢◌, ℕ, zero, suc, ◌+◌, ◌-◌, ◌<◌, ◌≤◌, Bool, true, false, not, ◌&&◌, ◌||◌, ◌==◌, List, [], ◌∷◌, ◌++◌, Option, Some, None, ◌⊎◌, inl, inr, refl, sym, ap, ◌∙◌, subst, arith, if◌then◌else◌, slice_get, filter, reverse, append-nil, nat_lt, is_some, take}
+use Rattle.std.proofs.lemmas.Bool.{false≢true, eqb-true, and_parts, lt-ltb, ne_eqb}
 use Rattle.un_frame.specs.declared.params.Lane.{Lane}
 use Rattle.un_frame.specs.declared.params.Lane.TheVariants.{Outward, Inward}
 use Rattle.un_frame.specs.declared.kinds.Phase.{Phase}
@@ -18,66 +17,13 @@ use Rattle.un_journal.specs.Script.{Script, Frame, planned, tx_size, rx_size}
 use Rattle.un_journal.specs.History.{Entry, History, past, concerns, those, first, taken, made, cover, built, posted, flies, waits, mark, halted, told_if, current, left_of, is_empty}
 use Rattle.un_journal.specs.Lookup.{phase_of, phase_after, after_order, after_control, works, is_awake, is_asleep, is_stopping, is_leaving, controls_done, feed_head, built_frames, block_open, block_claims, span_after_took, tx_home, rx_home, offer_needs_home, tick_needs_home, pending, deferred, unmarked, is_deferring}
 use Rattle.un_journal.specs.Licence.{IsOrder}
-use Rattle.un_journal.specs.Step.{bare, made_if, cut_each, marked_each, recalled_each, dropped_built, order_lines, datagram_bytes, all_home}
+use Rattle.un_journal.specs.LaneSteps.{bare, datagram_bytes}
+use Rattle.un_journal.specs.Step.{made_if, cut_each, marked_each, recalled_each, dropped_built, order_lines, all_home}
 use Rattle.un_journal.specs.Fits.{Act, Fits, takes, refuses, waits_once, closes, begins_flight, cuts_queued, lands, fails, cuts_flight, comes_home, opens, gives, posts_one, marks, recalls_one, clears, settles, orders, orders_forced, Legal, begins, goes_on, after_took}
 use Rattle.un_journal.proofs.Lists.{same_lane_true, those_first}
-
--- LINES ON TOP OF OLDER ONES
-
-abbrev pub onto : History → History → History
-onto [] g = g
-onto (e ∷ es) g = onto es (e ∷ g)
-
-pub onto_append : (xs ys g : History) → onto (xs ++ ys) g ≡ onto ys (onto xs g)
-onto_append [] ys g = refl
-onto_append (x ∷ xs) ys g = onto_append xs ys (x ∷ g)
-
-newest : (h : History) (e : Entry) → reverse (h ++ e ∷ []) ≡ e ∷ reverse h
-newest h e = rw reverse-append refl
-
-pub reverse_onto : (lines h : History) → reverse (h ++ lines) ≡ onto lines (reverse h)
-reverse_onto [] h = rw append-nil refl
-reverse_onto (e ∷ es) h =
-    ap reverse (sym (append_assoc h (e ∷ []) es)) ∙ reverse_onto es (h ++ e ∷ []) ∙ ap (onto es) (newest h e)
-
-pub filter_onto : (p : Entry → Bool) (lines older : History) → filter p (onto lines older) ≡ onto (filter p lines) (filter p older)
-filter_onto p [] older = refl
-filter_onto p (e ∷ es) older = filter_onto p es (e ∷ older) ∙ go (p e)
-  where
-    go : (b : Bool) → onto (filter p es) (if b then (e ∷ filter p older) else filter p older) ≡ onto (if b then (e ∷ filter p es) else filter p es) (filter p older)
-    go true = refl
-    go false = refl
-
-pub past_onto : (lane : Lane) (h lines : History) → past lane (h ++ lines) ≡ onto (filter (concerns lane) lines) (past lane h)
-past_onto lane h lines = ap (filter (concerns lane)) (reverse_onto lines h) ∙ filter_onto (concerns lane) lines (reverse h)
-
-split_more : (b : Bool) (x : Entry) (zs xs ys : History) → zs ≡ xs ++ ys → (if b then (x ∷ zs) else zs) ≡ (if b then (x ∷ xs) else xs) ++ ys
-split_more true x zs xs ys e = ap (λ i. x ∷ i) e
-split_more false x zs xs ys e = e
-
-pub filter_append : (p : Entry → Bool) (xs ys : History) → filter p (xs ++ ys) ≡ filter p xs ++ filter p ys
-filter_append p [] ys = refl
-filter_append p (x ∷ xs) ys = split_more (p x) x _ (filter p xs) (filter p ys) (filter_append p xs ys)
-
--- lines of one lane
-abbrev pub AllOf : Lane → History → Type 0
-AllOf lane [] = Unit {0}
-AllOf lane (e ∷ es) = ((l : Lane) → concerns l e ≡ same_lane l lane) × AllOf lane es
-
-pub filter_of : (lane l : Lane) (lines : History) → AllOf lane lines → filter (concerns l) lines ≡ (if same_lane l lane then lines else [])
-filter_of lane l [] a = go (same_lane l lane)
-  where
-    none : History
-    none = []
-
-    go : (b : Bool) → none ≡ (if b then none else none)
-    go true = refl
-    go false = refl
-filter_of lane l (e ∷ es) a = rw (a.0 l, filter_of lane l es a.1) (go (same_lane l lane))
-  where
-    go : (b : Bool) → (if b then (e ∷ (if b then es else [])) else (if b then es else [])) ≡ (if b then (e ∷ es) else [])
-    go true = refl
-    go false = refl
+use Rattle.un_journal.proofs.Onto.{onto, onto_append, reverse_onto, filter_append, AllOf, filter_of, newest}
+use Rattle.un_journal.proofs.Given.{cover_below}
+use Rattle.un_journal.proofs.Steps.{legal_good}
 
 -- THE RULES
 
@@ -109,7 +55,7 @@ pub record GaveRule (script : Script) (n : ℕ) (bytes : List ℕ) (g : History)
   pub serial : ℕ
   pub is_current : current g ≡ Some serial
   pub is_next : first (left_of g serial) ≡ Some n
-  pub is_part : bytes ≡ datagram_bytes script g serial n
+  pub is_part : bytes ≡ datagram_bytes script.params g serial n
 
 abbrev pub LaneRule : Script → Phase → Lane → Entry → History → Type 0
 LaneRule script phase l (Took l' s, bytes) g = TookRule script phase l l' s bytes g
@@ -255,7 +201,7 @@ unmarked_free phase lane g =
     free_those (λ k. (flies g k || (not (is_deferring phase lane) && waits g k)) && not (is_some (mark g k))) (made g) g (λ j e. not_some (mark g j) (and_parts _ (not (is_some (mark g j))) e).1)
 
 other_mark : (k c j : ℕ) (o : Option ℕ) → k + 1 ≤ j → told_if (k == j) c o ≡ o
-other_mark k c j o h = rw (Rattle.std.proofs.lemmas.Bool.ne_eqb k j (λ e. omega arith)) refl
+other_mark k c j o h = rw (ne_eqb k j (λ e. omega arith)) refl
 
 marked_rules : (script : Script) (phase : Phase) (lane : Lane) (c lo hi : ℕ) (ks : List ℕ) (g : History) → AreFree lo hi g ks → hi ≡ made g → LaneRuled script phase lane (marked_each lane c ks) g
 marked_rules script phase lane c lo hi [] g f m = tt
@@ -484,7 +430,7 @@ took_made_pays script Inward sender s g c needs = inr (needs refl)
 took_made_pays script Outward sender s g c needs = go (packs script.params.class Outward) refl
   where
     some_built : nat_lt 0 (taken g + 1 - cover g) ≡ true
-    some_built = Rattle.std.proofs.lemmas.Bool.lt-ltb 0 (taken g + 1 - cover g) (omega arith)
+    some_built = lt-ltb 0 (taken g + 1 - cover g) (omega arith)
 
     go : (b : Bool) → packs script.params.class Outward ≡ b
         → (block_claims script.params Outward (after_took Outward sender g) ≡ true) ⊎ (0 < tx_home script.params Outward (after_took Outward sender g))
@@ -599,4 +545,4 @@ step_ruled script h lines act low all (orders_forced due e p d q z) = order_rule
 pub legal_ruled : (script : Script) (h : History) → Legal script h → AllRuled script (reverse h)
 legal_ruled script h begins = tt
 legal_ruled script h (goes_on h0 lines act legal fits) =
-    step_ruled script h0 lines act (λ l. Rattle.un_journal.proofs.Given.cover_below (past l h0) ((Rattle.un_journal.proofs.Steps.legal_good script h0 legal).sound l)) (legal_ruled script h0 legal) fits
+    step_ruled script h0 lines act (λ l. cover_below (past l h0) ((legal_good script h0 legal).sound l)) (legal_ruled script h0 legal) fits

@@ -15,8 +15,9 @@ use Rattle.un_journal.specs.declared.controls.Control.{Control as Order}
 use Rattle.un_journal.specs.declared.controls.Due.{Due}
 use Rattle.un_journal.specs.Script.{Script}
 use Rattle.un_journal.specs.History.{Entry, History, past, concerns, taken, made, cover, flies, waits, landed, failed, posted, waiting, flying, built, first}
-use Rattle.un_journal.specs.Lookup.{phase_of, phase_after, after_order, controls_done, is_asleep, deferred, queued, unmarked, built_frames, span_after_took}
-use Rattle.un_journal.specs.Step.{bare, made_entry, made_if, cut_each, marked_each, recalled_each, dropped_built, order_lines, hinders}
+use Rattle.un_journal.specs.Lookup.{phase_of, phase_after, after_order, controls_done, is_asleep, deferred, queued, unmarked, built_frames, span_after_took, after_settled}
+use Rattle.un_journal.specs.LaneSteps.{bare}
+use Rattle.un_journal.specs.Step.{made_entry, made_if, cut_each, marked_each, recalled_each, dropped_built, order_lines, hinders}
 use Rattle.un_journal.specs.Sound.{IsSound, Follows, IsNext, IsNextSpan}
 use Rattle.un_journal.specs.Fits.{Act, Fits, takes, refuses, waits_once, closes, begins_flight, cuts_queued, lands, fails, cuts_flight, comes_home, opens, gives, posts_one, marks, recalls_one, clears, settles, orders, orders_forced, after_took, Legal, begins, goes_on}
 use Rattle.un_journal.proofs.Given.{cover_below}
@@ -69,7 +70,7 @@ grounded_if : (b : Bool) (e : Entry) (g : History) → is_plain e ≡ true → (
 grounded_if true e g p j w = plain_grounded e g p j w
 grounded_if false e g p j w = w
 
-asleep_settled : (phase : Phase) → is_asleep (Rattle.un_journal.specs.Lookup.after_settled phase) ≡ true → is_asleep phase ≡ true
+asleep_settled : (phase : Phase) → is_asleep (after_settled phase) ≡ true → is_asleep phase ≡ true
 asleep_settled Asleep e = refl
 asleep_settled Up e = e
 asleep_settled Stopping e = e

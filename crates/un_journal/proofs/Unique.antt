@@ -13,7 +13,8 @@ use Rattle.un_frame.specs.Verdict.{verdict_of}
 use Rattle.un_journal.specs.Script.{Script, Frame}
 use Rattle.un_journal.specs.History.{History, past, built, flies, flying, those, first, took_last, made}
 use Rattle.un_journal.specs.Lookup.{phase_of, works, is_awake, is_asleep, pending, block_open, tx_home, offer_needs_home, span_after_took}
-use Rattle.un_journal.specs.Step.{Outcome, Writes, Answers, lines_in, judge, bare, offer_head, made_if}
+use Rattle.un_journal.specs.LaneSteps.{Outcome, Writes, Answers, lines_in, bare}
+use Rattle.un_journal.specs.Step.{judge, offer_head, made_if}
 use Rattle.un_journal.specs.Sound.{IsSound}
 use Rattle.un_journal.specs.Fits.{Act, Fits, takes, refuses, waits_once, closes, begins_flight, cuts_queued, lands, fails, cuts_flight, comes_home, opens, gives, posts_one, marks, recalls_one, clears, settles, orders, orders_forced, Legal, act_outcome, after_took}
 use Rattle.un_journal.specs.declared.lines.Line.{Line}

@@ -1,4 +1,4 @@
--- Runs of actions, the serial round and the drain.
+-- Runs of actions, the serial round and the drain (this project's own).
 use Rattle.std.specs.Prelude.{ℕ, zero, suc, ◌+◌, ◌*◌, Bool, true, false, List, [], ◌∷◌, ◌++◌, length, sum_by, nat_le}
 use Rattle.un_frame.specs.declared.params.Lane.TheVariants.{Outward, Inward}
 use Rattle.un_journal.specs.declared.actions.Action.{Action}
@@ -11,6 +11,7 @@ abbrev pub run : Script → History → List Action → History
 run script h [] = h
 run script h (a ∷ rest) = run script (h ++ step_of script h a) rest
 
+-- one round: every action once, in this order
 abbrev pub round : List Action
 round =
     Action.Control false ∷ Action.Refill Outward ∷ Action.Refill Inward
@@ -21,19 +22,21 @@ round =
     ∷ Action.Deliver Outward ∷ Action.Deliver Inward ∷ Action.Unlink Outward ∷ Action.Unlink Inward
     ∷ Action.ClearHalt Outward ∷ Action.ClearHalt Inward ∷ Action.Settle ∷ []
 
--- the bound on the lines of a history
-abbrev pub frames : Script → ℕ
-frames script = sum_by length (feeds_of script Outward) + sum_by length (feeds_of script Inward)
+-- the frames of all feeds
+abbrev pub frame_count : Script → ℕ
+frame_count script = sum_by length (feeds_of script Outward) + sum_by length (feeds_of script Inward)
 
+-- The bound on the lines of a history: 13 for each frame; of each receive request one at the start and two for each control, when
+-- it is recalled and posted again; 4 for each control.
 abbrev pub line_bound : Script → ℕ
 line_bound script =
-    13 * frames script + (2 * length script.controls + 1) * (script.params.rx_out + script.params.rx_in) + 4 * length script.controls
+    13 * frame_count script + (2 * length script.controls + 1) * (script.params.rx_out + script.params.rx_in) + 4 * length script.controls
 
 -- whether the second history is no longer than the first
 abbrev pub same_length : History → History → Bool
 same_length h h' = nat_le (length h') (length h)
 
--- the drain, in at most so many rounds: a round that writes nothing is followed by a forced control, and the drain
+-- the drain, in at most so many rounds and forced controls: a round that writes nothing is followed by a forced control, and the drain
 -- ends where that writes nothing either
 abbrev pub drain_in : ℕ → Script → History → History
 drain_in zero script h = h
@@ -45,5 +48,6 @@ drain_in (suc rounds) script h =
           elim (same_length h forced) [ false ↦ drain_in rounds script forced | true ↦ h ]
     ]
 
+-- more of them than a history has room for lines, so the drain comes to its end
 abbrev pub drain : Script → History → History
 drain script h = drain_in (line_bound script + 1) script h

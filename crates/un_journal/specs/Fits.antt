@@ -1,5 +1,6 @@
--- The table of steps: which lines may be one step after a history. One rule for each row: what it needs, and the lines.
-use Rattle.std.specs.Prelude.{◌≡◌, ◌≢◌, ◌<◌, ℕ, ◌-◌, Bool, true, false, [], ◌∷◌, ◌++◌, reverse, Some, None, slice_get, ◌||◌}
+-- The table of steps: which lines may be one step after a history. One rule for each row: what it needs, and the lines. Legal
+-- histories are those that these steps leave. The rows are this project's own.
+use Rattle.std.specs.Prelude.{◌≡◌, ◌≢◌, ◌<◌, ℕ, ◌-◌, Bool, true, false, [], ◌∷◌, ◌++◌, reverse, Option, Some, None, slice_get, ◌||◌}
 use Rattle.un_frame.specs.declared.params.Lane.{Lane}
 use Rattle.un_frame.specs.declared.params.Lane.TheVariants.{Outward, Inward}
 use Rattle.un_frame.specs.declared.kinds.Verdict.{Verdict}
@@ -10,7 +11,8 @@ use Rattle.un_journal.specs.declared.controls.Due.{Due}
 use Rattle.un_journal.specs.Script.{Script, Frame, planned}
 use Rattle.un_journal.specs.History.{History, past, taken, cover, built, returned, posted, flying, flies, arrived, current, left_of, ended, halted, mark, first}
 use Rattle.un_journal.specs.Lookup.{phase_of, works, is_awake, is_asleep, is_stopping, is_leaving, controls_done, feed_head, span_after_took, tx_home, rx_home, offer_needs_home, tick_needs_home, pending, queued, unmarked}
-use Rattle.un_journal.specs.Step.{Work, Offer, Tick, Take, Land, TxDone, RxDone, Deliver, Refill, Unlink, ClearHalt, Settle, bare, made_if, made_entry, datagram_bytes, settled_line, all_home, order_lines, hinders, is_due, quiet, Outcome, work, control}
+use Rattle.un_journal.specs.LaneSteps.{bare, datagram_bytes, Outcome}
+use Rattle.un_journal.specs.Step.{Work, Offer, Tick, Take, Land, TxDone, RxDone, Deliver, Refill, Unlink, ClearHalt, Settle, made_if, made_entry, settled_line, all_home, order_lines, hinders, is_due, quiet, work, control}
 
 -- what a step is a step of
 pub data Act : Type 0 where
@@ -21,15 +23,21 @@ pub data Act : Type 0 where
 abbrev pub after_took : Lane → ℕ → History → History
 after_took lane sender g = bare (Line.Took lane sender) ∷ g
 
+-- the span that it closes, if it closes one
+abbrev pub took_span : Script → Lane → ℕ → History → Option (ℕ × ℕ)
+took_span script lane sender g = span_after_took script lane (after_took lane sender g)
+
+-- the rows, by act: offer, tick, take, land, the done list, the receiving end, stops, controls
 pub data Fits (script : Script) (h : History) : Act → History → Type 0 where
   takes : (lane : Lane) (sender : ℕ) (frame : Frame)
       → works (phase_of script h) ≡ true
       → feed_head script lane (past lane h) sender ≡ Some frame
       → verdict_of script.params lane frame ≡ Verdict.Take
-      → (offer_needs_home script.params lane (past lane h) (span_after_took script lane (after_took lane sender (past lane h))) ≡ true
+      → (offer_needs_home script.params lane (past lane h) (took_span script lane sender (past lane h)) ≡ true
       → 0 < tx_home script.params lane (past lane h))
       → Fits script h (Works (Offer lane sender))
-      (bare (Line.Took lane sender) ∷ made_if script lane (after_took lane sender (past lane h)) (span_after_took script lane (after_took lane sender (past lane h))))
+      (bare (Line.Took lane sender)
+      ∷ made_if script lane (after_took lane sender (past lane h)) (took_span script lane sender (past lane h)))
   refuses : (lane : Lane) (sender : ℕ) (frame : Frame) (why : Verdict)
       → works (phase_of script h) ≡ true
       → feed_head script lane (past lane h) sender ≡ Some frame
@@ -42,7 +50,8 @@ pub data Fits (script : Script) (h : History) : Act → History → Type 0 where
       → 0 < built (past lane h)
       → pending script.params lane (past lane h) ≡ 0
       → (tick_needs_home script.params lane (past lane h) ≡ true → 0 < tx_home script.params lane (past lane h))
-      → Fits script h (Works (Tick lane)) (made_entry script lane (past lane h) (cover (past lane h), taken (past lane h)) ∷ [])
+      → Fits script h (Works (Tick lane))
+      (made_entry script lane (past lane h) (cover (past lane h), taken (past lane h)) ∷ [])
   begins_flight : (lane : Lane) (k : ℕ)
       → is_asleep (phase_of script h) ≡ false
       → flying (past lane h) ≡ []
@@ -75,7 +84,7 @@ pub data Fits (script : Script) (h : History) : Act → History → Type 0 where
   gives : (lane : Lane) (k n : ℕ)
       → current (past lane h) ≡ Some k
       → first (left_of (past lane h) k) ≡ Some n
-      → Fits script h (Works (Deliver lane)) ((Line.Gave lane n, datagram_bytes script (past lane h) k n) ∷ [])
+      → Fits script h (Works (Deliver lane)) ((Line.Gave lane n, datagram_bytes script.params (past lane h) k n) ∷ [])
   posts_one : (lane : Lane)
       → is_awake (phase_of script h) ≡ true
       → 0 < rx_home script.params lane (past lane h)

@@ -1,8 +1,9 @@
 -- What a line needs of the script and of the lines before it, the newest first: why a transfer failed or was cut, why datagrams were
--- dropped, and that every request is home where a stop settles.
-use Rattle.std.specs.Prelude.{◌≡◌, ◌<◌, ℕ, false, ◌||◌, [], ◌∷◌, Some, None, slice_get, filter}
+-- dropped, and that every request is home where a stop settles (this project's own).
+use Rattle.std.specs.Prelude.{◌≡◌, ◌<◌, ℕ, false, ◌||◌, Some, None, slice_get, filter}
 use Rattle.un_frame.specs.declared.params.Lane.{Lane}
 use Rattle.un_frame.specs.declared.params.Lane.TheVariants.{Outward, Inward}
+use Rattle.un_frame.specs.declared.kinds.FaultKind.{FaultKind}
 use Rattle.un_journal.specs.declared.lines.Line.{Line}
 use Rattle.un_journal.specs.declared.lines.Line.TheVariants.{Failed, Marked, Cut, Dropped, Settled}
 use Rattle.un_journal.specs.declared.controls.Control.{Control as Order}
@@ -30,32 +31,32 @@ pub record IsCause (script : Script) (older : History) (c : ℕ) (kind : Order �
   pub is_done : c < controls_done older
   pub is_kind : kind due.control
 
-pub record IsFault (script : Script) (older : History) (lane : Lane) (k : ℕ) (planned' : Type 0) : Type 0 where
-  pub is_planned : planned'
+-- the plan has this fault for the transfer, and no control marked it
+pub record IsFault (script : Script) (older : History) (lane : Lane) (k : ℕ) (kind : FaultKind) : Type 0 where
+  pub is_planned : planned script lane k ≡ Some kind
   pub is_unmarked : mark (filter (concerns lane) older) k ≡ None
 
+-- a control line is of the next control of the script, and no stop is being settled
 pub record IsOrder (script : Script) (older : History) (c : ℕ) : Type 0 where
   pub is_next : c ≡ controls_done older
   pub due : Due
   pub is_control : slice_get script.controls c ≡ Some due
   pub is_settled : (is_stopping (phase_after script.controls older) || is_leaving (phase_after script.controls older)) ≡ false
 
+-- the four numbers of a settled line are the sizes of the pools
 pub record AreSizes (script : Script) (t1 r1 t2 r2 : ℕ) : Type 0 where
   pub tx_out : t1 ≡ tx_size script.params Outward
   pub rx_out : r1 ≡ rx_size script.params Outward
   pub tx_in : t2 ≡ tx_size script.params Inward
   pub rx_in : r2 ≡ rx_size script.params Inward
 
+-- What licenses a line at its place. A failed, cut or dropped line has its cause; a marked line names a control that cuts its lane;
+-- control and settled lines stand where they may.
 abbrev pub Licensed : Script → History → Entry → Type 0
-Licensed script older (Failed l k kind, bytes) = IsFault script older l k (planned script l k ≡ Some kind)
+Licensed script older (Failed l k kind, bytes) = IsFault script older l k kind
 Licensed script older (Marked l k c, bytes) = IsCause script older c (λ o. Cuts o l)
 Licensed script older (Cut l k c, bytes) = IsCause script older c (λ o. Cuts o l)
 Licensed script older (Dropped l a b c, bytes) = IsCause script older c Stops
 Licensed script older (Settled t1 r1 t2 r2, bytes) = AreSizes script t1 r1 t2 r2
 Licensed script older (Line.Control c f, bytes) = IsOrder script older c
 Licensed script older (e, bytes) = Unit {0}
-
--- every line is licensed at its place
-abbrev pub AllLicensed : Script → History → Type 0
-AllLicensed script [] = Unit {0}
-AllLicensed script (e ∷ older) = Licensed script older e × AllLicensed script older

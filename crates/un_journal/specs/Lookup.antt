@@ -1,4 +1,5 @@
--- What a history says with its script: the phase, the feeds, the requests at home, the next block.
+-- What a history says with its script: the phase, the feeds, the requests at home, the next block, the queues. The rules are this
+-- project's own; those on blocks follow the Linux drivers cdc_ncm, outward, and f_ncm, inward.
 use Rattle.std.specs.Prelude.{ℕ, zero, suc, ◌+◌, ◌-◌, min, Bool, true, false, not, ◌&&◌, ◌||◌, nat_lt, List, [], ◌∷◌, ◌++◌, reverse, length, drop, Option, Some, None, unwrap_or, is_some, slice_get, if◌then◌else◌}
 use Rattle.un_frame.specs.declared.params.Lane.{Lane}
 use Rattle.un_frame.specs.declared.params.Lane.TheVariants.{Outward, Inward}
@@ -16,6 +17,7 @@ use Rattle.un_journal.specs.History.{History, taken, consumed, made, cover, buil
 
 -- PHASE
 
+-- the phase that a control leaves, from the one before it
 abbrev pub after_order : Order → Phase → Phase
 after_order Order.Suspend phase = Phase.Asleep
 after_order Order.Resume phase = Phase.Up
@@ -28,6 +30,7 @@ abbrev pub after_control : Option Due → Phase → Phase
 after_control None phase = phase
 after_control (Some due) phase = after_order due.control phase
 
+-- a stop that is settled is over
 abbrev pub after_settled : Phase → Phase
 after_settled Stopping = Phase.Down
 after_settled Leaving = Phase.Away
@@ -43,6 +46,7 @@ phase_after controls (e ∷ h) = phase_after controls h
 abbrev pub phase_of : Script → History → Phase
 phase_of script history = phase_after script.controls (reverse history)
 
+-- whether the link is up, sleeps, is being stopped or is being unplugged
 abbrev pub is_awake : Phase → Bool
 is_awake Up = true
 is_awake _ = false
@@ -59,6 +63,7 @@ abbrev pub is_leaving : Phase → Bool
 is_leaving Leaving = true
 is_leaving _ = false
 
+-- whether frames are accepted: up or asleep
 abbrev pub works : Phase → Bool
 works phase = is_awake phase || is_asleep phase
 
@@ -80,21 +85,24 @@ datagrams script lane [] = []
 datagrams script lane ((Took l s, bytes) ∷ g) = datagrams script lane g ++ unwrap_or (feed_head script lane g s) [] ∷ []
 datagrams script lane (e ∷ g) = datagrams script lane g
 
+-- whether the feeds of the lane's four senders are empty
 abbrev pub feeds_empty_from : Script → Lane → History → ℕ → ℕ → Bool
 feeds_empty_from script lane g sender zero = true
-feeds_empty_from script lane g sender (suc n) = not (is_some (feed_head script lane g sender)) && feeds_empty_from script lane g (sender + 1) n
+feeds_empty_from script lane g sender (suc n) =
+    not (is_some (feed_head script lane g sender)) && feeds_empty_from script lane g (sender + 1) n
 
 abbrev pub feeds_empty : Script → Lane → History → Bool
 feeds_empty script lane g = feeds_empty_from script lane g 0 4
 
 -- BLOCKS
 
--- whether the lane's block is open
+-- Whether the lane's block is open: outward there are built numbers, and the last datagram was accepted after the last transfer
+-- was made, else what is built is a remainder; inward there are built numbers. A lane that doesn't pack never leaves anything built.
 abbrev pub block_open : Params → Lane → History → Bool
 block_open params Outward g = packs params.class Outward && nat_lt 0 (built g) && took_last g
 block_open params Inward g = packs params.class Inward && nat_lt 0 (built g)
 
--- the open block that holds a claimed request
+-- whether the block holds a transmit request that was claimed when it was opened
 abbrev pub block_claims : Params → Lane → History → Bool
 block_claims params Outward g = block_open params Outward g
 block_claims params Inward g = false
@@ -109,9 +117,11 @@ span_after_took script lane g = closed_span script.params lane (built_frames scr
 
 -- REQUESTS AT HOME
 
+-- the transmit requests at home: each made transfer took one that comes back with its txhome line, and an open block claims one
 abbrev pub tx_home : Params → Lane → History → ℕ
 tx_home params lane g = tx_size params lane + returned g - (made g + (if block_claims params lane g then 1 else 0))
 
+-- the receive requests at home: each posted one comes back recalled, with a failed or cut flight, or with the last datagram given
 abbrev pub rx_home : Params → Lane → History → ℕ
 rx_home params lane g =
     rx_size params lane + recalls g + failures g + flight_cuts g + length (delivered g) - posts g
@@ -121,11 +131,12 @@ abbrev pub offer_needs_home : Params → Lane → History → Option (ℕ × ℕ
 offer_needs_home params Outward g closed = not (block_open params Outward g)
 offer_needs_home params Inward g closed = is_some closed
 
+-- whether a tick that closes what is built needs one
 abbrev pub tick_needs_home : Params → Lane → History → Bool
 tick_needs_home params Outward g = not (block_open params Outward g)
 tick_needs_home params Inward g = true
 
--- the pending count
+-- the ticks that an open outward block waits yet: 3 since its second datagram was accepted, or its first, less those that were waited
 abbrev pub pending : Params → Lane → History → ℕ
 pending params Outward g =
     if block_open params Outward g then 3 - waited_after g (min (taken g - 1) (cover g + 1)) else 0
@@ -133,7 +144,7 @@ pending params Inward g = 0
 
 -- QUEUES
 
--- the deferred and the queued transfers, in a phase
+-- the waiting transfers by serial: outward they are deferred while the link sleeps, else queued at the endpoint
 abbrev pub deferred : Phase → Lane → History → List ℕ
 deferred Asleep Outward g = waiting g
 deferred _ lane g = []

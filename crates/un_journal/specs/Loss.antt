@@ -1,12 +1,11 @@
--- Scripts that lose nothing, scripts that end with an unplug, and what histories say of them.
+-- Scripts that lose nothing, and the frames that are accepted.
 use Rattle.std.specs.Prelude.{◌≡◌, ◌<◌, ℕ, ◌-◌, ◌==◌, Bool, true, false, List, [], ◌∷◌, ◌++◌, ◌⊎◌, length, filter, unwrap_or, Some, if◌then◌else◌, slice_get}
 use Rattle.un_frame.specs.declared.params.Lane.{Lane}
 use Rattle.un_frame.specs.declared.params.Params.{Params}
 use Rattle.un_frame.specs.declared.kinds.Verdict.{Verdict}
 use Rattle.un_frame.specs.declared.kinds.Verdict.TheVariants.{Take}
 use Rattle.un_frame.specs.Verdict.{verdict_of}
-use Rattle.un_journal.specs.declared.lines.Line.{Line}
-use Rattle.un_journal.specs.declared.lines.Line.TheVariants.{Took, Settled}
+use Rattle.un_journal.specs.declared.lines.Line.TheVariants.{Took}
 use Rattle.un_journal.specs.declared.controls.Control.{Control as Order}
 use Rattle.un_journal.specs.declared.controls.Due.{Due}
 use Rattle.un_journal.specs.Script.{Script, Frame}
@@ -16,8 +15,10 @@ use Rattle.un_journal.specs.Lookup.{feed_head}
 -- no fault is planned, every control is a suspend or a resume, and the last one isn't a suspend
 pub record LosesNothing (script : Script) : Type 0 where
   pub no_fault : script.faults ≡ []
-  pub only_sleeps : (c : ℕ) (due : Due) → slice_get script.controls c ≡ Some due → (due.control ≡ Order.Suspend) ⊎ (due.control ≡ Order.Resume)
-  pub ends_awake : (due : Due) → 0 < length script.controls → slice_get script.controls (length script.controls - 1) ≡ Some due → due.control ≡ Order.Suspend → ⊥
+  pub only_sleeps : (c : ℕ) (due : Due) → slice_get script.controls c ≡ Some due
+      → (due.control ≡ Order.Suspend) ⊎ (due.control ≡ Order.Resume)
+  pub ends_awake : (due : Due) → 0 < length script.controls → slice_get script.controls (length script.controls - 1) ≡ Some due
+      → due.control ≡ Order.Suspend → ⊥
 
 abbrev pub is_take : Verdict → Bool
 is_take Take = true
@@ -27,21 +28,10 @@ is_take _ = false
 abbrev pub accepted : Script → Lane → History → ℕ → List Frame
 accepted script lane [] sender = []
 accepted script lane ((Took l s, bytes) ∷ g) sender =
-    if s == sender then accepted script lane g sender ++ unwrap_or (feed_head script lane g s) [] ∷ [] else accepted script lane g sender
+    if s == sender then accepted script lane g sender ++ unwrap_or (feed_head script lane g s) [] ∷ []
+    else accepted script lane g sender
 accepted script lane (e ∷ g) sender = accepted script lane g sender
 
 -- the frames of a list that are to be taken
 abbrev pub good_frames : Params → Lane → List Frame → List Frame
 good_frames params lane frames = filter (λ frame. is_take (verdict_of params lane frame)) frames
-
--- whether the newest of the lines that change the phase is a settled line
-abbrev pub is_settled_last : History → Bool
-is_settled_last [] = false
-is_settled_last ((Line.Control c f, bytes) ∷ h) = false
-is_settled_last ((Settled t1 r1 t2 r2, bytes) ∷ h) = true
-is_settled_last (e ∷ h) = is_settled_last h
-
--- the first list begins the second
-pub record IsPrefix (xs ys : List ℕ) : Type 0 where
-  pub rest : List ℕ
-  pub is_rest : ys ≡ xs ++ rest

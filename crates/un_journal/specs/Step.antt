@@ -1,61 +1,25 @@
--- The steps of a link: what each action writes after a history, or the answer of one that writes nothing.
-use Rattle.std.specs.Prelude.{ℕ, ◌+◌, ◌-◌, Bool, true, false, not, ◌&&◌, ◌||◌, ◌==◌, nat_lt, nat_le, List, [], ◌∷◌, ◌++◌, map, reverse, length, take, replicate, Option, Some, None, slice_get, if◌then◌else◌}
+-- The steps of a link: what each action writes after a history, or the answer of one that writes nothing. The rules are this
+-- project's own; how blocks are cut follows the Linux drivers cdc_ncm and f_ncm.
+use Rattle.std.specs.Prelude.{ℕ, ◌+◌, ◌-◌, Bool, true, false, not, ◌&&◌, ◌||◌, ◌==◌, nat_lt, nat_le, List, [], ◌∷◌, ◌++◌, map, reverse, length, replicate, Option, Some, None, slice_get, if◌then◌else◌}
 use Rattle.std.specs.List.{list_all}
 use Rattle.un_frame.specs.declared.params.Lane.{Lane}
 use Rattle.un_frame.specs.declared.params.Lane.TheVariants.{Outward, Inward}
 use Rattle.un_frame.specs.declared.kinds.Phase.{Phase}
-use Rattle.un_frame.specs.declared.params.Params.{Params}
 use Rattle.un_frame.specs.declared.kinds.Verdict.{Verdict}
-use Rattle.un_frame.specs.declared.kinds.FaultKind.{FaultKind}
 use Rattle.un_frame.specs.Verdict.{verdict_of}
-use Rattle.un_frame.specs.Wire.{form}
-use Rattle.un_frame.specs.Parts.{datagram_of}
-use Rattle.un_frame.specs.Cut.{closed_span}
 use Rattle.un_journal.specs.declared.lines.Line.{Line}
 use Rattle.un_journal.specs.declared.actions.Answer.{Answer}
 use Rattle.un_journal.specs.declared.actions.Action.{Action}
 use Rattle.un_journal.specs.declared.controls.Control.{Control as Order}
 use Rattle.un_journal.specs.declared.controls.Due.{Due}
 use Rattle.un_journal.specs.Script.{Script, Frame, planned, tx_size, rx_size}
-use Rattle.un_journal.specs.History.{Entry, History, past, taken, made, cover, built, returned, posted, flying, arrived, current, left_of, ended, halted, mark, made_bytes, span, is_empty}
-use Rattle.un_journal.specs.Lookup.{phase_of, works, is_asleep, is_stopping, is_leaving, controls_done, feed_head, feeds_empty, built_frames, tx_home, rx_home, offer_needs_home, tick_needs_home, pending, deferred, queued, unmarked}
+use Rattle.un_journal.specs.LaneSteps.{Outcome, Writes, Answers, lines_in, answer_in, bare, made_line, made_lines, accept, tick_built, take_queued, land_marked, tx_done, rx_done, deliver_next, post, unlink_first, clear_set}
+use Rattle.un_journal.specs.History.{Entry, History, past, taken, cover, built, posted, flying, mark, is_empty}
+use Rattle.un_journal.specs.Lookup.{phase_of, works, is_asleep, is_stopping, is_leaving, controls_done, feed_head, feeds_empty, built_frames, tx_home, rx_home, deferred, queued, unmarked}
 
--- what an action does after a history: it writes lines, or it writes none and answers
-pub data Outcome : Type 0 where
-  Writes : History → Outcome
-  Answers : Answer → Outcome
+-- OFFER AND TICK
 
-abbrev pub lines_in : Outcome → History
-lines_in (Writes lines) = lines
-lines_in (Answers answer) = []
-
-abbrev pub answer_in : Outcome → Answer
-answer_in (Writes lines) = Answer.Did
-answer_in (Answers answer) = answer
-
--- a line without bytes
-abbrev pub bare : Line → Entry
-bare line = (line, [])
-
--- OFFER
-
--- the made line of the next transfer, with this span; the frames begin with the span's first
-abbrev pub made_line : Params → Lane → List Frame → History → ℕ × ℕ → Entry
-made_line params lane frames g s =
-    (Line.Made lane (made g) s.0 s.1, form params (made g) (take (s.1 - s.0) frames))
-
-abbrev pub made_lines : Params → Lane → List Frame → History → Option (ℕ × ℕ) → History
-made_lines params lane frames g None = []
-made_lines params lane frames g (Some s) = made_line params lane frames g s ∷ []
-
--- an accepted datagram, where the frames are the built ones and its own: the lane's part of an offer
-abbrev pub accept : Params → Lane → ℕ → List Frame → History → Outcome
-accept params lane sender frames g =
-    let g' = bare (Line.Took lane sender) ∷ g in
-    let closed = closed_span params lane frames (cover g') (taken g' - 1) in
-    if offer_needs_home params lane g closed && tx_home params lane g == 0 then Answers Answer.Busy
-    else Writes (bare (Line.Took lane sender) ∷ made_lines params lane frames g' closed)
-
+-- the made line of the lane's next transfer
 abbrev pub made_entry : Script → Lane → History → ℕ × ℕ → Entry
 made_entry script lane g s = made_line script.params lane (built_frames script lane g) g s
 
@@ -63,7 +27,8 @@ abbrev pub made_if : Script → Lane → History → Option (ℕ × ℕ) → His
 made_if script lane g closed = made_lines script.params lane (built_frames script lane g) g closed
 
 abbrev pub judge : Script → Lane → ℕ → History → Verdict → Outcome
-judge script lane sender g Verdict.Take = accept script.params lane sender (built_frames script lane (bare (Line.Took lane sender) ∷ g)) g
+judge script lane sender g Verdict.Take =
+    accept script.params lane sender (built_frames script lane (bare (Line.Took lane sender) ∷ g)) g
 judge script lane sender g why = Writes (bare (Line.Refused lane sender why) ∷ [])
 
 abbrev pub offer_head : Script → Phase → Lane → ℕ → History → Option Frame → Outcome
@@ -75,105 +40,28 @@ offer_head script phase lane sender g (Some frame) =
 abbrev pub offer : Script → Phase → Lane → ℕ → History → Outcome
 offer script phase lane sender g = offer_head script phase lane sender g (feed_head script lane g sender)
 
--- TICK
-
 abbrev pub tick : Script → Lane → History → Outcome
-tick script lane g =
-    if built g == 0 then Answers Answer.Nothing
-    else (if nat_lt 0 (pending script.params lane g) then Writes (bare (Line.Waited lane) ∷ [])
-    else (if tick_needs_home script.params lane g && tx_home script.params lane g == 0 then Answers Answer.NoRequest
-    else Writes (made_entry script lane g (cover g, taken g) ∷ [])))
+tick script lane g = tick_built script.params lane (built_frames script lane g) g
 
 -- TAKE AND LAND
 
-abbrev pub take_head : Bool → Lane → History → ℕ → Option ℕ → Outcome
-take_head asleep lane g k (Some c) = Writes (bare (Line.Cut lane k c) ∷ [])
-take_head asleep lane g k None =
-    if asleep then Answers Answer.Asleep
-    else (if halted g then Answers Answer.Halted
-    else (if posted g == 0 then Answers Answer.NoBuffer
-    else Writes (bare (Line.Flying lane k) ∷ [])))
-
-abbrev pub take_first : Bool → Lane → History → List ℕ → Outcome
-take_first asleep lane g [] = Answers Answer.Nothing
-take_first asleep lane g (k ∷ ks) = take_head asleep lane g k (mark g k)
-
-abbrev pub take_from : Phase → Lane → History → List ℕ → Outcome
-take_from phase lane g [] = take_first (is_asleep phase) lane g (queued phase lane g)
-take_from phase lane g (k ∷ ks) = Answers (Answer.Flying k)
-
 abbrev pub take_flight : Phase → Lane → History → Outcome
-take_flight phase lane g = take_from phase lane g (flying g)
-
-abbrev pub land_planned : Lane → ℕ → Option FaultKind → Outcome
-land_planned lane k None = Writes (bare (Line.Landed lane k) ∷ [])
-land_planned lane k (Some kind) = Writes (bare (Line.Failed lane k kind) ∷ [])
-
-abbrev pub land_marked : Script → Lane → ℕ → Option ℕ → Outcome
-land_marked script lane k (Some c) = Writes (bare (Line.Cut lane k c) ∷ [])
-land_marked script lane k None = land_planned lane k (planned script lane k)
+take_flight phase lane g = take_queued (is_asleep phase) lane g (queued phase lane g)
 
 abbrev pub land_from : Script → Lane → History → List ℕ → Outcome
 land_from script lane g [] = Answers Answer.Nothing
-land_from script lane g (k ∷ ks) = land_marked script lane k (mark g k)
+land_from script lane g (k ∷ ks) = land_marked lane (planned script lane k) k (mark g k)
 
 abbrev pub land_flight : Script → Lane → History → Outcome
 land_flight script lane g = land_from script lane g (flying g)
 
--- THE RECEIVING END AND THE DONE LIST
-
-abbrev pub tx_done : Lane → History → Outcome
-tx_done lane g =
-    if ended g (returned g) then Writes (bare (Line.TxHome lane (returned g)) ∷ []) else Answers Answer.Nothing
-
-abbrev pub open_first : Lane → List ℕ → Outcome
-open_first lane [] = Answers Answer.Nothing
-open_first lane (k ∷ ks) = Writes (bare (Line.Opened lane k) ∷ [])
-
-abbrev pub rx_done_at : Lane → History → Option ℕ → Outcome
-rx_done_at lane g (Some k) = Answers Answer.Nothing
-rx_done_at lane g None = open_first lane (arrived g)
-
-abbrev pub rx_done : Lane → History → Outcome
-rx_done lane g = rx_done_at lane g (current g)
-
-abbrev pub span_start : Option (ℕ × ℕ) → ℕ
-span_start None = 0
-span_start (Some s) = s.0
-
--- the bytes of datagram n as transfer k carries it: the part at its place in the span
-abbrev pub datagram_bytes : Script → History → ℕ → ℕ → List ℕ
-datagram_bytes script g k n =
-    datagram_of script.params.class (made_bytes g k) (n - span_start (span g k))
-
-abbrev pub deliver_first : Script → Lane → History → ℕ → List ℕ → Outcome
-deliver_first script lane g k [] = Answers Answer.Nothing
-deliver_first script lane g k (n ∷ ns) = Writes ((Line.Gave lane n, datagram_bytes script g k n) ∷ [])
-
-abbrev pub deliver_from : Script → Lane → History → Option ℕ → Outcome
-deliver_from script lane g None = Answers Answer.Nothing
-deliver_from script lane g (Some k) = deliver_first script lane g k (left_of g k)
-
-abbrev pub deliver : Script → Lane → History → Outcome
-deliver script lane g = deliver_from script lane g (current g)
-
--- the lane's part of a refill
-abbrev pub post : Params → Lane → History → Outcome
-post params lane g =
-    if rx_home params lane g == 0 then Answers Answer.Nothing else Writes (bare (Line.Posted lane) ∷ [])
+-- REFILL AND STOPS
 
 abbrev pub refill : Script → Phase → Lane → History → Outcome
 refill script phase lane g =
     if is_asleep phase then Answers Answer.Asleep
     else (if not (works phase) then Answers (Answer.Down phase)
     else post script.params lane g)
-
--- STOPS
-
-abbrev pub unlink_first : Lane → ℕ → History → List ℕ → Outcome
-unlink_first lane cause g (k ∷ ks) = Writes (bare (Line.Marked lane k cause) ∷ [])
-unlink_first lane cause g [] =
-    if posted g == 0 then Answers Answer.Nothing else Writes (bare (Line.Recalled lane) ∷ [])
 
 abbrev pub unlink : Phase → Lane → ℕ → History → Outcome
 unlink phase lane cause g =
@@ -183,7 +71,7 @@ abbrev pub clear_halt : Phase → Lane → History → Outcome
 clear_halt phase lane g =
     if is_asleep phase then Answers Answer.Asleep
     else (if not (works phase) then Answers (Answer.Down phase)
-    else (if halted g then Writes (bare (Line.Cleared lane) ∷ []) else Answers Answer.Nothing))
+    else clear_set lane g)
 
 -- the requests of both lanes that aren't home
 abbrev pub away : Script → History → ℕ
@@ -233,7 +121,7 @@ work script h (Take lane) = take_flight (phase_of script h) lane (past lane h)
 work script h (Land lane) = land_flight script lane (past lane h)
 work script h (TxDone lane) = tx_done lane (past lane h)
 work script h (RxDone lane) = rx_done lane (past lane h)
-work script h (Deliver lane) = deliver script lane (past lane h)
+work script h (Deliver lane) = deliver_next script.params lane (past lane h)
 work script h (Refill lane) = refill script (phase_of script h) lane (past lane h)
 work script h (Unlink lane) = unlink (phase_of script h) lane (controls_done (reverse h) - 1) (past lane h)
 work script h (ClearHalt lane) = clear_halt (phase_of script h) lane (past lane h)
@@ -241,10 +129,16 @@ work script h Settle = settle script h
 
 -- CONTROLS
 
+-- the offers of a lane, and its other work; a landing is left out, since it fits only where something flies
+abbrev pub offers : Lane → List Work
+offers lane = Offer lane 0 ∷ Offer lane 1 ∷ Offer lane 2 ∷ Offer lane 3 ∷ []
+
+abbrev pub other_works : Lane → List Work
+other_works lane =
+    Tick lane ∷ Take lane ∷ TxDone lane ∷ RxDone lane ∷ Deliver lane ∷ Refill lane ∷ Unlink lane ∷ ClearHalt lane ∷ []
+
 abbrev pub lane_works : Lane → List Work
-lane_works lane =
-    Offer lane 0 ∷ Offer lane 1 ∷ Offer lane 2 ∷ Offer lane 3 ∷ Tick lane ∷ Take lane ∷ TxDone lane ∷ RxDone lane
-    ∷ Deliver lane ∷ Refill lane ∷ Unlink lane ∷ ClearHalt lane ∷ []
+lane_works lane = offers lane ++ other_works lane
 
 abbrev pub is_still : Outcome → Bool
 is_still (Writes lines) = false

@@ -1,4 +1,4 @@
--- The words of the sums of a lane's requests.
+-- The words in which the requests of a lane's pools add up.
 use Rattle.std.specs.Prelude.{ℕ, ◌+◌, length, if◌then◌else◌}
 use Rattle.un_frame.specs.declared.params.Lane.{Lane}
 use Rattle.un_frame.specs.declared.params.Params.{Params}

@@ -2,7 +2,6 @@
 
 ghost use Rattle.std.specs.Prelude.{◌≡◌, ◌≤◌, ◌∷◌, [], length, IfOk};
 ghost use Rattle.un_frame.specs.declared.params.Class.TheVariants.{Ecm};
-ghost use Rattle.un_frame.specs.Ecm.{ecm_form};
 ghost use Rattle.un_frame.specs.Fault.{fault_in};
 ghost use Rattle.un_frame.specs.Wire.{Reads, fault_of};
 
@@ -13,7 +12,7 @@ use un_req::Request;
 pub fn ecm_append(request: &mut Request, frame: &[u8])
     requires empty { request.old.bytes ≡ [] }
     requires room { length frame.now ≤ request.old.capacity }
-    ensures { request.new ≡ record request.old { bytes = ecm_form frame.now } }
+    ensures { request.new ≡ record request.old { bytes = frame.now } }
 {
     request.push(frame);
 }

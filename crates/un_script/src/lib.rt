@@ -4,6 +4,7 @@
 mod law;
 mod lines;
 mod numbers;
+mod plan;
 mod reader;
 mod script;
 mod standing;
@@ -15,5 +16,4 @@ mod why;
 pub use law::read_scripts_are_ready;
 pub use reader::read;
 pub use script::Script;
-pub use standing::Standing;
 pub use why::{ScriptError, Why};

@@ -1,8 +1,10 @@
+use Rattle.un_journal.proofs.Going.{legal_drain}
 use Rattle.un_journal.proofs.Drained.{enough_fuel, drain_done}
 use Rattle.un_journal.proofs.laws.drain_is_done.Goals as goal
 
-pub returns-clause-fuel : goal.returns-clause-fuel
-returns-clause-fuel c script h fuel legal e = enough_fuel fuel script h legal e
-
-pub returns-clause-ends : goal.returns-clause-ends
-returns-clause-ends c script h legal w = drain_done script h legal w
+pub returns : goal.returns
+returns c = record {
+  legal = legal_drain;
+  ends = λ script h rounds legal e. enough_fuel rounds script h legal e;
+  done = drain_done;
+}

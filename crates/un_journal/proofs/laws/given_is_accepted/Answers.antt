@@ -1,6 +1,13 @@
-use Rattle.un_journal.proofs.Ranges.{wire_holds}
+use Rattle.un_journal.specs.History.{past}
+use Rattle.un_journal.proofs.Given.{given_rises, given_taken}
 use Rattle.un_journal.proofs.Formed.{legal_formed}
+use Rattle.un_journal.proofs.Ranges.{wire_holds}
+use Rattle.un_journal.proofs.Steps.{legal_good}
 use Rattle.un_journal.proofs.laws.given_is_accepted.Goals as goal
 
 pub returns : goal.returns
-returns c script h lane ranges agree legal = (legal_formed script h (wire_holds script.params ranges agree) legal lane).kept.gave_well
+returns c = record {
+  rises = λ script h lane legal. given_rises (past lane h) ((legal_good script h legal).sound lane);
+  accepted = λ script h lane legal. given_taken (past lane h) ((legal_good script h legal).sound lane);
+  unchanged = λ script h lane ranges agree legal. (legal_formed script h (wire_holds script.params ranges agree) legal lane).kept.gave_well;
+}

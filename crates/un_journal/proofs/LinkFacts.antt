@@ -1,0 +1,202 @@
+-- What a link takes from the laws: room for each step, its drain's loop, how long a lane's lines are, prefixes of one history.
+use Rattle.std.proofs.Common.{◌&&◌, List, ◌≡◌, suc, ◌+◌, ◌≤◌, Bool, true, false, [], ◌∷◌, ◌++◌, length, refl, sym, ap, ◌∙◌, subst, arith, if◌then◌else◌, filter, reverse, length-append, append-nil}
+use Rattle.std.proofs.lemmas.Bool.{false≢true}
+use Rattle.std.proofs.lemmas.List.{length-reverse}
+use Rattle.un_frame.specs.declared.params.Lane.{Lane}
+use Rattle.un_frame.specs.Params.{AreInRange, Agree}
+use Rattle.un_journal.specs.declared.lines.Line.{Line}
+use Rattle.un_journal.specs.declared.lines.Line.TheVariants.{Took, Made}
+use Rattle.un_journal.specs.declared.actions.Action.{Action}
+use Rattle.un_journal.specs.Script.{Script}
+use Rattle.un_journal.specs.History.{Entry, History, past, concerns, taken, made, flying, is_empty}
+use Rattle.un_journal.specs.Lookup.{controls_done}
+use Rattle.un_journal.specs.LaneSteps.{lines_in}
+use Rattle.un_journal.specs.Step.{Work, work, step_of, is_still, offers, other_works, lane_works, quiet}
+use Rattle.std.specs.List.{list_all}
+use Rattle.std.proofs.lemmas.List.Folds.{list_all-append}
+use Rattle.un_frame.specs.declared.params.Lane.TheVariants.{Outward, Inward}
+use Rattle.un_journal.specs.Fits.{Act, Legal, IsDone, act_outcome}
+use Rattle.un_journal.specs.Drain.{run, round, drain, drain_in, same_length, line_bound}
+use Rattle.un_journal.specs.Bytes.{bytes_in, byte_bound}
+use Rattle.un_journal.proofs.Going.{legal_act, legal_step, legal_run}
+use Rattle.un_journal.proofs.Bound.{legal_bound}
+use Rattle.un_journal.proofs.Room.{legal_room}
+use Rattle.un_journal.proofs.Ranges.{wire_holds}
+use Rattle.un_journal.proofs.Moments.{goes_no_further}
+use Rattle.un_journal.proofs.Drained.{Extends, fuel_same}
+
+-- ROOM
+
+pub bytes_append : (xs ys : History) → bytes_in (xs ++ ys) ≡ bytes_in xs + bytes_in ys
+bytes_append [] ys = omega arith
+bytes_append ((line, bytes) ∷ xs) ys = let e : bytes_in (xs ++ ys) ≡ bytes_in xs + bytes_in ys = bytes_append xs ys in omega arith
+
+-- the lines of an act have room
+pub act_has_room : (script : Script) (h : History) (act : Act) → Legal script h → length h + length (lines_in (act_outcome script h act)) ≤ line_bound script
+act_has_room script h act legal =
+    let e : length (h ++ lines_in (act_outcome script h act)) ≡ length h + length (lines_in (act_outcome script h act)) = length-append h (lines_in (act_outcome script h act)) in
+    let b : length (h ++ lines_in (act_outcome script h act)) ≤ line_bound script = legal_bound script _ (legal_act script h act legal) in omega arith
+
+pub step_has_room : (script : Script) (h : History) (action : Action) → Legal script h → length h + length (step_of script h action) ≤ line_bound script
+step_has_room script h action legal =
+    let e : length (h ++ step_of script h action) ≡ length h + length (step_of script h action) = length-append h (step_of script h action) in
+    let b : length (h ++ step_of script h action) ≤ line_bound script = legal_bound script _ (legal_step script h action legal) in omega arith
+
+-- and so do their bytes
+pub act_has_byte_room : (script : Script) (h : History) (act : Act) → AreInRange script.params → Agree script.params → Legal script h → bytes_in h + bytes_in (lines_in (act_outcome script h act)) ≤ byte_bound script
+act_has_byte_room script h act ranges agree legal =
+    let e : bytes_in (h ++ lines_in (act_outcome script h act)) ≡ bytes_in h + bytes_in (lines_in (act_outcome script h act)) = bytes_append h (lines_in (act_outcome script h act)) in
+    let b : bytes_in (h ++ lines_in (act_outcome script h act)) ≤ byte_bound script = legal_room script _ (wire_holds script.params ranges agree) (legal_act script h act legal) in omega arith
+
+pub step_has_byte_room : (script : Script) (h : History) (action : Action) → AreInRange script.params → Agree script.params → Legal script h → bytes_in h + bytes_in (step_of script h action) ≤ byte_bound script
+step_has_byte_room script h action ranges agree legal =
+    let e : bytes_in (h ++ step_of script h action) ≡ bytes_in h + bytes_in (step_of script h action) = bytes_append h (step_of script h action) in
+    let b : bytes_in (h ++ step_of script h action) ≤ byte_bound script = legal_room script _ (wire_holds script.params ranges agree) (legal_step script h action legal) in omega arith
+
+-- QUIET
+
+-- whether nothing flies in the lane and none of its work but an offer would write lines, and whether no offer would
+abbrev pub lane_still : Script → History → Lane → Bool
+lane_still script h lane = is_empty (flying (past lane h)) && list_all (λ w. is_still (work script h w)) (other_works lane)
+
+abbrev pub offers_still : Script → History → Lane → Bool
+offers_still script h lane = list_all (λ w. is_still (work script h w)) (offers lane)
+
+same_parts : (fo fi oo so oi si st : Bool) → ((fo && fi) && ((oo && so) && ((oi && si) && st))) ≡ (((fo && so) && (fi && si)) && ((oo && oi) && st))
+same_parts false fi oo so oi si st = refl
+same_parts true fi oo false oi si st = left fi oo
+  where
+    left : (a b : Bool) → (a && ((b && false) && ((oi && si) && st))) ≡ false
+    left false b = refl
+    left true false = refl
+    left true true = refl
+same_parts true false oo true oi si st = refl
+same_parts true true false true oi si st = right si
+  where
+    right : (a : Bool) → false ≡ (a && false)
+    right false = refl
+    right true = refl
+same_parts true true true true oi false st = none oi
+  where
+    none : (a : Bool) → ((a && false) && st) ≡ false
+    none false = refl
+    none true = refl
+same_parts true true true true false true st = refl
+same_parts true true true true true true st = refl
+
+and_assoc : (x y z : Bool) → ((x && y) && z) ≡ (x && (y && z))
+and_assoc true y z = refl
+and_assoc false y z = refl
+
+split_lists : (p : Work → Bool) (a b c d e : List Work) → list_all p (((a ++ b) ++ (c ++ d)) ++ e) ≡ ((list_all p a && list_all p b) && ((list_all p c && list_all p d) && list_all p e))
+split_lists p a b c d e =
+    list_all-append p ((a ++ b) ++ (c ++ d)) e
+    ∙ (ap (λ i. i && list_all p e) (list_all-append p (a ++ b) (c ++ d) ∙ (ap (λ i. i && list_all p (c ++ d)) (list_all-append p a b) ∙ ap (λ i. (list_all p a && list_all p b) && i) (list_all-append p c d)))
+    ∙ and_assoc (list_all p a && list_all p b) (list_all p c && list_all p d) (list_all p e))
+
+one_all : (p : Work → Bool) (w : Work) → list_all p (w ∷ []) ≡ p w
+one_all p w = go (p w)
+  where
+    go : (b : Bool) → (b && true) ≡ b
+    go true = refl
+    go false = refl
+
+-- a link is quiet where both lanes are still, no offer would write lines, and no stop would settle
+pub quiet_parts : (script : Script) (h : History)
+    → quiet script h ≡ ((lane_still script h Outward && lane_still script h Inward) && ((offers_still script h Outward && offers_still script h Inward) && is_still (work script h Work.Settle)))
+quiet_parts script h = ap (λ b. (is_empty (flying (past Outward h)) && is_empty (flying (past Inward h))) && b) split
+    ∙ same_parts (is_empty (flying (past Outward h))) (is_empty (flying (past Inward h))) (offers_still script h Outward) (list_all test (other_works Outward)) (offers_still script h Inward) (list_all test (other_works Inward)) (test Work.Settle)
+  where
+    test : Work → Bool
+    test w = is_still (work script h w)
+
+    split : list_all test (lane_works Outward ++ lane_works Inward ++ Work.Settle ∷ []) ≡ ((list_all test (offers Outward) && list_all test (other_works Outward)) && ((list_all test (offers Inward) && list_all test (other_works Inward)) && test Work.Settle))
+    split = split_lists test (offers Outward) (other_works Outward) (offers Inward) (other_works Inward) (Work.Settle ∷ [])
+        ∙ ap (λ b. (list_all test (offers Outward) && list_all test (other_works Outward)) && ((list_all test (offers Inward) && list_all test (other_works Inward)) && b)) (one_all test Work.Settle)
+
+-- THE LOOP OF THE DRAIN
+
+drain_once : (script : Script) (h : History) → drain script h ≡ drain_in (suc (line_bound script)) script h
+drain_once script h = ap (λ n. drain_in n script h) more
+  where
+    more : line_bound script + 1 ≡ suc (line_bound script)
+    more = omega arith
+
+drain_on : (script : Script) (h : History) → Legal script h → drain_in (line_bound script) script h ≡ drain script h
+drain_on script h legal = fuel_same (line_bound script) (line_bound script + 1) script h legal (omega arith) (omega arith)
+
+-- a round that wrote lines is one of the drain's
+pub drain_after_round : (script : Script) (h : History) → Legal script h → same_length h (run script h round) ≡ false → drain script (run script h round) ≡ drain script h
+drain_after_round script h legal more =
+    sym (drain_once script h ∙ (go (same_length h (run script h round)) more (drain_in (line_bound script) script (run script h round)) _ ∙ drain_on script (run script h round) (legal_run script h round legal)))
+  where
+    go : (b : Bool) → b ≡ false → (x y : History) → (elim b as (λ i. History) [ false ↦ x | true ↦ y ]) ≡ x
+    go true e x y = absurd (false≢true (sym e))
+    go false e x y = refl
+
+-- after one that wrote none, a forced control that wrote lines is the drain's
+pub drain_after_control : (script : Script) (h : History) → Legal script h → same_length h (run script h round) ≡ true → same_length h (h ++ step_of script h (Action.Control true)) ≡ false
+    → drain script (h ++ step_of script h (Action.Control true)) ≡ drain script h
+drain_after_control script h legal none more =
+    sym (drain_once script h ∙ (go (same_length h (run script h round)) (same_length h (h ++ step_of script h (Action.Control true))) none more _ (drain_in (line_bound script) script (h ++ step_of script h (Action.Control true))) h
+    ∙ drain_on script (h ++ step_of script h (Action.Control true)) (legal_step script h (Action.Control true) legal)))
+  where
+    go : (a b : Bool) → a ≡ true → b ≡ false → (x y z : History) → (elim a as (λ i. History) [ false ↦ x | true ↦ elim b as (λ i. History) [ false ↦ y | true ↦ z ] ]) ≡ y
+    go false b n m x y z = absurd (false≢true n)
+    go true true n m x y z = absurd (false≢true (sym m))
+    go true false n m x y z = refl
+
+-- where neither wrote any, the drain is at its end
+pub drain_at_end : (script : Script) (h : History) → same_length h (run script h round) ≡ true → same_length h (h ++ step_of script h (Action.Control true)) ≡ true → drain script h ≡ h
+drain_at_end script h none still = drain_once script h ∙ go (same_length h (run script h round)) (same_length h (h ++ step_of script h (Action.Control true))) none still _ _ h
+  where
+    go : (a b : Bool) → a ≡ true → b ≡ true → (x y z : History) → (elim a as (λ i. History) [ false ↦ x | true ↦ elim b as (λ i. History) [ false ↦ y | true ↦ z ] ]) ≡ z
+    go false b n m x y z = absurd (false≢true n)
+    go true true n m x y z = refl
+    go true false n m x y z = absurd (false≢true m)
+
+-- LENGTHS
+
+filter_short : (p : Entry → Bool) (h : History) → length (filter p h) ≤ length h
+filter_short p [] = omega arith
+filter_short p (e ∷ h) = go (p e) (filter_short p h)
+  where
+    go : (b : Bool) → length (filter p h) ≤ length h → length (if b then (e ∷ filter p h) else filter p h) ≤ length (e ∷ h)
+    go true low = omega arith
+    go false low = omega arith
+
+-- a lane's lines are no more than all
+pub past_short : (lane : Lane) (h : History) → length (past lane h) ≤ length h
+past_short lane h = let f : length (past lane h) ≤ length (reverse h) = filter_short (concerns lane) (reverse h) in let r : length (reverse h) ≡ length h = length-reverse h in omega arith
+
+pub taken_short : (g : History) → taken g ≤ length g
+taken_short [] = omega arith
+taken_short ((Took l s, bytes) ∷ g) = let e : taken g ≤ length g = taken_short g in omega arith
+taken_short (e ∷ g) = let w : taken g ≤ length g = taken_short g in omega arith
+
+pub made_short : (g : History) → made g ≤ length g
+made_short [] = omega arith
+made_short ((Made l k a b, bytes) ∷ g) = let e : made g ≤ length g = made_short g in omega arith
+made_short (e ∷ g) = let w : made g ≤ length g = made_short g in omega arith
+
+pub controls_short : (older : History) → controls_done older ≤ length older
+controls_short [] = omega arith
+controls_short ((Line.Control c f, bytes) ∷ older) = let e : controls_done older ≤ length older = controls_short older in omega arith
+controls_short (e ∷ older) = let w : controls_done older ≤ length older = controls_short older in omega arith
+
+-- PREFIXES
+
+-- of two beginnings of one history the longer begins with the other
+pub begins_longer : (xs ys more more' : History) → xs ++ more ≡ ys ++ more' → length xs ≤ length ys → Extends xs ys
+begins_longer [] ys more more' e low = record { more = ys; is_more = refl }
+begins_longer (x ∷ xs) [] more more' e low = absurd (omega arith)
+begins_longer (x ∷ xs) (y ∷ ys) more more' e low =
+    let same : x ≡ y = cc in
+    let rest : xs ++ more ≡ ys ++ more' = cc in
+    let w = begins_longer xs ys more more' rest (omega arith) in
+    record { more = w.more; is_more = ap (λ i. y ∷ i) w.is_more ∙ ap (λ i. i ∷ (xs ++ w.more)) (sym same) }
+
+-- a done beginning of a legal history is all of it
+pub done_is_all : (script : Script) (g h : History) → IsDone script g → Legal script h → Extends g h → h ≡ g
+done_is_all script g h d legal w =
+    w.is_more ∙ (ap (λ i. g ++ i) (goes_no_further script g w.more d (subst (Legal script) w.is_more legal)) ∙ append-nil g)

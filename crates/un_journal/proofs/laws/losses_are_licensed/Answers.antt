@@ -1,0 +1,5 @@
+use Rattle.un_journal.proofs.Spelled.{licensed_at}
+use Rattle.un_journal.proofs.laws.losses_are_licensed.Goals as goal
+
+pub returns : goal.returns
+returns c = licensed_at

@@ -1,0 +1,11 @@
+use Rattle.un_journal.proofs.Homes.{legal_sums, away_some, away_none}
+use Rattle.un_journal.proofs.laws.pools_add_up.Goals as goal
+
+pub returns : goal.returns
+returns c = record {
+  transmit = λ script h lane legal. (legal_sums script h legal lane).transmit;
+  receive = λ script h lane legal. (legal_sums script h legal lane).receive;
+  in_pool = λ script h lane legal. ((legal_sums script h legal lane).transmit_in_pool, (legal_sums script h legal lane).receive_in_pool);
+  some_away = away_some;
+  none_away = away_none;
+}

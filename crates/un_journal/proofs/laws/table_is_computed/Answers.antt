@@ -1,0 +1,10 @@
+use Rattle.un_journal.proofs.Complete.{outcome_fits}
+use Rattle.un_journal.proofs.Unique.{fits_outcome}
+use Rattle.un_journal.proofs.Steps.{legal_good}
+use Rattle.un_journal.proofs.laws.table_is_computed.Goals as goal
+
+pub returns : goal.returns
+returns c = record {
+  fits = λ script h act lines e. outcome_fits script h lines act e;
+  written = λ script h act lines legal f. fits_outcome script h lines act (legal_good script h legal) f;
+}

@@ -1,0 +1,11 @@
+//! One lane of a link whose frames are each a transfer of its own.
+#![tactic(auto)]
+
+mod laws;
+mod path;
+mod request;
+#[cfg(test)]
+mod tests;
+
+pub use laws::{calls_use_up, offers_bring};
+pub use path::Path;

@@ -1,0 +1,128 @@
+//! The command over a source and a sink.
+
+ghost use Rattle.std.specs.Prelude.{◌≡◌, ◌≤◌, ℕ, List, map, length, IfOk, codes};
+ghost use Rattle.std.specs.String.{string_bytes};
+ghost use Rattle.std.specs.Io.KnownBytes.{Consumes};
+ghost use Rattle.un_io.specs.Io.{Rose};
+ghost use Rattle.usbnet_run.specs.Command.{Ends, IsComplete, RefusalsAreExact, Tells, is_serial, why_word, bad_script_line};
+
+use crate::serial::run_script;
+use std::alloc::Global;
+use un_io::{ReadError, Sink, Source, read_whole, write_whole};
+use un_journal::{Buffer, number, word, write_trace};
+use un_script::{ScriptError, Why};
+
+/// The most bytes of input.
+const MOST_INPUT: u64 = 16_777_216;
+
+/// Whether the words are the one word `serial`.
+fn is_serial(words: &[String]) -> bool
+    ensures { result ≡ Rattle.usbnet_run.specs.Command.is_serial (map string_bytes words.now) }
+{
+    if words.len() != 1 {
+        return false;
+    }
+    words[0].as_bytes() == b"serial".as_slice()
+}
+
+fn why_word(why: Why) -> &'static [u8]
+    ensures word { result.now ≡ Rattle.usbnet_run.specs.Command.why_word why }
+    ensures short { length result.now ≤ 7 }
+{
+    match why {
+        Why::Form => b"form",
+    }
+}
+
+/// Writes a refusal's line, or a front of it: the status stays the refusal's own where the write fails.
+fn tell<O: Sink>(out: &mut O, line: &[u8])
+    ensures told { Tells (O.held out.old) (O.held out.new) line.now }
+    ensures never_falls { O.faults out.old ≤ O.faults out.new }
+{
+    let _ = write_whole(out, line);
+}
+
+/// Writes that a script's line is refused.
+fn tell_bad_script<O: Sink>(out: &mut O, line: u64, why: Why)
+    ensures told { Tells (O.held out.old) (O.held out.new) (Rattle.usbnet_run.specs.Command.bad_script_line line why) }
+    ensures never_falls { O.faults out.old ≤ O.faults out.new }
+{
+    let mut refusal = Buffer::make();
+    refusal.push(b"bad script");
+    number(&mut refusal, line);
+    word(&mut refusal, why_word(why));
+    refusal.push(b"\n");
+    tell(out, refusal.as_slice());
+}
+
+/// Does the command `serial`: reads a script from the source, runs it, and adds the trace text of its history to the sink. Other words
+/// are bad words. It always returns, and takes all memory before the first byte of output.
+///
+/// The status is 0 where all output was written; 1 for want of memory; 2 where a read failed; 3 where a write failed, and then the
+/// sink has grown by a front of the output and not all; 4 where the words aren't `serial`, and then no byte was read; 5 where the
+/// bytes are no script; 7 where there were more than 16,777,216 of them. All but 0 and 3 write one line, or a front of it where that
+/// write fails.
+pub fn plain_command<I: Source, O: Sink>(
+    alloc: Global,
+    words: &[String],
+    input: &mut I,
+    out: &mut O,
+) -> u8
+    // What the status says.
+    ensures ends { (given : List ℕ) × Consumes (I.left input.old) (I.left input.new) given
+        × Ends (map string_bytes words.now) given (I.left input.new) (O.held out.old) (O.held out.new) result }
+
+    // A fault is the source's or the sink's own.
+    ensures read_fault { result ≡ 2 → Rose (I.faults input.old) (I.faults input.new) }
+    ensures write_fault { result ≡ 3 → Rose (O.faults out.old) (O.faults out.new) }
+{
+    if !is_serial(words) {
+        tell(out, b"bad words\n");
+        return 4;
+    }
+    let text = match read_whole(alloc, input, MOST_INPUT) {
+        Ok(text) => text,
+        Err(ReadError::ReadFault) => {
+            tell(out, b"read fault\n");
+            return 2;
+        }
+        Err(ReadError::TooLarge) => {
+            tell(out, b"too large\n");
+            return 7;
+        }
+        Err(ReadError::NoMemory) => {
+            tell(out, b"no memory\n");
+            return 1;
+        }
+    };
+    let script = match un_script::read(alloc, &text) {
+        Ok(script) => script,
+        Err(ScriptError::BadLine { line, why }) => {
+            tell_bad_script(out, line, why);
+            return 5;
+        }
+        Err(ScriptError::NoMemory) => {
+            tell(out, b"no memory\n");
+            return 1;
+        }
+    };
+    drop(text);
+    let Ok(journal) = run_script(alloc, script) else {
+        tell(out, b"no memory\n");
+        return 1;
+    };
+    match write_trace(out, &journal) {
+        Ok(()) => 0,
+        Err(_) => 3,
+    }
+}
+
+/// The command does its work wherever it can.
+pub fn command_is_complete()
+    ensures { IsComplete }
+{}
+
+/// Each refusal comes exactly where it is due, but for want of memory and a read fault.
+pub fn refusals_are_exact()
+    ensures { RefusalsAreExact }
+{}

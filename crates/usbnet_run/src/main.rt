@@ -1,0 +1,36 @@
+//! The program: the words after its name are a command over standard input and output.
+#![tactic(auto)]
+
+mod command;
+mod serial;
+#[cfg(test)]
+mod tests;
+
+use crate::command::plain_command;
+use std::env;
+use std::io::{self, ErrorKind};
+use std::process::ExitCode;
+use un_io::{StdSink, StdSource};
+
+/// The status where the words couldn't be had from the system.
+const NO_WORDS: u8 = 10;
+
+/// The status for want of memory.
+const NO_MEMORY: u8 = 1;
+
+fn main(rt: HostRuntime) -> ExitCode {
+    let args = match env::args(&rt) {
+        Ok(args) => args,
+        Err(error) if error.kind() == ErrorKind::OutOfMemory => return ExitCode::from(NO_MEMORY),
+        Err(_) => return ExitCode::from(NO_WORDS),
+    };
+    let mut words = Vec::new(rt.alloc());
+    for word in args.skip(1) {
+        if words.push(word).is_err() {
+            return ExitCode::from(NO_MEMORY);
+        }
+    }
+    let mut input = StdSource::make(rt.reader());
+    let mut out = StdSink::make(io::writer(&rt));
+    ExitCode::from(plain_command(rt.alloc(), &words, &mut input, &mut out))
+}
