@@ -1,4 +1,4 @@
-//! The row of worked bytes, and each public call once.
+//! Worked bytes, and each public call once.
 
 use crate::{DescFault, FunctionKind, Part, build, read};
 use std::test::Fail;
