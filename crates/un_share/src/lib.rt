@@ -1,0 +1,13 @@
+//! The eleven workers of a link, which share one turn over any machine that has a link's actions.
+#![tactic(auto)]
+
+mod crew;
+mod gate;
+mod holds;
+mod roles;
+#[cfg(test)]
+mod tests;
+mod workers;
+
+pub use crew::run_workers;
+pub use gate::{Gate, OpenGate};
