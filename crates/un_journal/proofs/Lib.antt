@@ -36,3 +36,5 @@ pub mod Entries
 pub mod Hexes
 pub mod TextLemmas
 pub mod WroteLemmas
+pub mod TextCuts
+pub mod TextReads

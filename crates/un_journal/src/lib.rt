@@ -5,18 +5,22 @@ mod actions;
 mod buffer;
 mod census;
 mod controls;
+mod got;
 mod heads;
 mod journal;
 mod laws;
 mod lines;
+mod machine;
 #[cfg(test)]
 mod tests;
+mod texts;
 mod writer;
 
 pub use actions::{Action, Answer};
 pub use buffer::{Buffer, number, word};
 pub use census::Census;
 pub use controls::{Control, Due, Planned};
+pub use got::Got;
 pub use journal::Journal;
 pub use laws::{
     bytes_are_bounded, census_names_the_place, cut_is_settled, done_is_finished, drain_is_done,
@@ -25,4 +29,6 @@ pub use laws::{
     settled_is_home, steps_stay_legal, table_is_computed,
 };
 pub use lines::Line;
+pub use machine::{Flight, Machine, Transfer};
+pub use texts::{entries_are_read, histories_are_read};
 pub use writer::{put, reserve, write_hex, write_trace};

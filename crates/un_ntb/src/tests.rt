@@ -189,9 +189,10 @@ fn chain(tables: u16) -> [u8; 540] {
 }
 
 #[test]
-fn reads_chains_of_tables(rt: HostRuntime) {
+fn reads_chains_of_tables(rt: HostRuntime) -> Result<(), Fail> {
     let longest = chain(32);
-    let longer = chain(33);
-    assert_eq!(rt; frames_read::<2>(&longest[..524], &[]), Some(0));
-    assert!(rt; is_refused::<2>(&longer, Kind::NdpLoop, 514));
+    let bytes = longest.get(..524).ok_or("too short")?;
+    assert_eq!(rt; frames_read::<2>(bytes, &[]), Some(0));
+    assert!(rt; is_refused::<2>(&chain(33), Kind::NdpLoop, 514));
+    Ok(())
 }

@@ -1,0 +1,5 @@
+use Rattle.un_journal.proofs.TextReads.{entries}
+use Rattle.un_journal.proofs.texts.entries_are_read.Goals as goal
+
+pub returns : goal.returns
+returns c = entries

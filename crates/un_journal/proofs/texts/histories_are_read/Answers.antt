@@ -1,0 +1,5 @@
+use Rattle.un_journal.proofs.TextReads.{histories}
+use Rattle.un_journal.proofs.texts.histories_are_read.Goals as goal
+
+pub returns : goal.returns
+returns c = histories

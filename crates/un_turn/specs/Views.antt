@@ -1,0 +1,54 @@
+-- Seats and guards as contracts see them, and what they keep (this project's own).
+use Rattle.std.specs.Prelude.{◌≡◌, ℕ, ◌+◌, ◌<◌, ◌≤◌, Bool, true, false, List, ◌++◌, Option, Some}
+use Rattle.atomic_table.specs.Seated.{TableId}
+use Rattle.un_journal.specs.declared.machine.Flight.{Flight}
+use Rattle.un_journal.specs.Flights.{times}
+use Rattle.un_journal.specs.History.{History}
+use Rattle.un_turn.specs.declared.view.View.{View}
+
+-- a seat: of which turn it is, its number there, and what it knows
+pub record Place (S : Type 0) : Type 0 where
+  pub turn : TableId
+  pub id : ℕ
+  pub view : View S
+
+-- a guard: of which turn it is, its seat's number, what the seat knew when it entered, the machine, and whether a call was made
+pub record Hold (M S : Type 0) : Type 0 where
+  pub turn : TableId
+  pub id : ℕ
+  pub view : View S
+  pub machine : M
+  pub called : Bool
+
+-- the history begins with what was seen
+abbrev pub StartsWith : History → History → Type 0
+StartsWith history seen = (more : History) × (history ≡ seen ++ more)
+
+-- what a seat knows is among the flights that are out
+abbrev pub IsOut : List Flight → List Flight → Type 0
+IsOut known out = (x : Flight) → times x known ≤ times x out
+
+-- The known flights have changed as the machine's have: not at all where the machine's are as they were, and else, flight by flight,
+-- by one more where the machine has one more and by one less where it has one less.
+pub record Follows (before after known known' : List Flight) : Type 0 where
+  pub same : after ≡ before → known' ≡ known
+  pub count : (x : Flight) → times x known' + times x before ≡ times x known + times x after
+
+-- the same view, with no fewer losses
+abbrev pub LostMore : {S : Type 0} → View S → View S → Type 0
+LostMore v w = (w ≡ record v { losses = w.losses }) × (v.losses ≤ w.losses)
+
+module _ {M S : Type 0} (script : M → S) (history : M → History) (flights : M → List Flight) where
+  -- What a guard keeps of its machine from the exchange that won on, so that its seat can leave: the machine has the view's script; its
+  -- history begins with that at entry; and its flights are those at entry, or one more that wasn't among them, or one less, which the
+  -- holder knew. None stands twice, and before a call they are those at entry.
+  pub record IsKept (v : View S) (machine : M) (called : Bool) : Type 0 where
+    pub holds : v.holds ≡ true
+    pub some_share : 0 < v.shares
+    pub plan : v.script ≡ Some (script machine)
+    pub grown : StartsWith (history machine) v.entry
+    pub known : List Flight
+    pub follows : Follows v.flying (flights machine) v.known known
+    pub single : (x : Flight) → times x (flights machine) ≤ 1
+    pub within : IsOut v.known v.flying
+    pub fresh : called ≡ false → flights machine ≡ v.flying
