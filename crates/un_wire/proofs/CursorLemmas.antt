@@ -1,6 +1,7 @@
 -- The parts of a transfer are the grammar's frames, and a cursor stands at the one of its index.
-use Rattle.std.proofs.Common.{◌≡◌, ◌↔◌, ℕ, ◌+◌, ◌-◌, ◌<◌, ◌≤◌, Bool, true, false, IsTrue, List, [], ◌∷◌, ◌++◌, length, map, drop, Option, Some, slice_get, unwrap_or, get_or, refl, sym, ap, ◌∙◌, arith, append_assoc, length-append}
+use Rattle.std.proofs.Common.{◌≡◌, ◌↔◌, ℕ, ◌+◌, ◌-◌, ◌<◌, ◌≤◌, Bool, true, false, IsTrue, List, [], ◌∷◌, ◌++◌, length, map, drop, Option, Some, None, Result, Ok, Err, IfOk, IfSome, IfNone, slice_get, unwrap_or, get_or, refl, sym, ap, ◌∙◌, arith, append_assoc, length-append}
 use Rattle.std.proofs.Math.Seq.{get_or-append_seam}
+use Rattle.std.proofs.lemmas.Bool.{false≢true}
 use Rattle.std.proofs.lemmas.Option.{slice_get_read, slice_get-get_or}
 use Rattle.un_frame.specs.declared.params.Class.{Class}
 use Rattle.un_frame.specs.declared.params.Class.TheVariants.{Ecm, Eem, Ncm16, Ncm32}
@@ -13,7 +14,7 @@ use Rattle.un_frame.proofs.WireLemmas.{ecm_one, eem_one, ncm16_one, ncm32_one}
 use Rattle.un_wire.specs.declared.cursor.Cursor.{Cursor}
 use Rattle.un_wire.specs.Cursors.{IsAt, parts_of, part_count, part_index}
 use Rattle.un_wire.specs.Laws.{PartsAre, PartsAreFrames, CountsAreParts, ReadingsAreOne}
-use Rattle.un_wire.specs.Places.{IsSoundAt, class_at, parts_at}
+use Rattle.un_wire.specs.Places.{IsFirst, IsSoundAt, class_at, commands_in, parts_at}
 
 places_are : (class : Class) → PartsAreTheFrames class
 places_are Ecm = ecm_parts
@@ -66,13 +67,26 @@ seam front part rest =
     slice_get_read (front ++ part ∷ rest) (length (front ++ part ∷ rest)) (length front) part refl (omega (arith, long)) (sym (get_or-append_seam front part rest part))
 
 -- a cursor at the first part
-pub at_first : (class : Class) (bytes : List ℕ) (cursor : Cursor) (commands : ℕ) → Reads class bytes (parts_at bytes cursor.place) commands → class_at cursor.place ≡ class → IsSoundAt bytes cursor.place → IsAt class bytes cursor
-at_first class bytes cursor commands r of sound =
-    record { of_class = of; sound = sound; passed = []; split = parts_read class bytes (parts_at bytes cursor.place) commands r }
+pub at_first : (class : Class) (bytes : List ℕ) (cursor : Cursor) → IsFirst class bytes cursor → IsAt class bytes cursor
+at_first class bytes cursor f =
+    record { of_class = f.of_class; sound = f.sound; passed = []; split = parts_read class bytes (parts_at bytes cursor.place) (commands_in class bytes) f.found }
 
-pub first_index : (class : Class) (bytes : List ℕ) (cursor : Cursor) (commands : ℕ) → Reads class bytes (parts_at bytes cursor.place) commands → part_index class bytes cursor ≡ 0
+pub first_index : (class : Class) (bytes : List ℕ) (cursor : Cursor) → IsFirst class bytes cursor → part_index class bytes cursor ≡ 0
 unfolding part_index
-first_index class bytes cursor commands r = let same = count_read class bytes (parts_at bytes cursor.place) commands r in omega (arith, same)
+first_index class bytes cursor f = let same = count_read class bytes (parts_at bytes cursor.place) (commands_in class bytes) f.found in omega (arith, same)
+
+-- what holds of an answer holds by what follows from it
+pub if_ok : {A B : Type 0} (r : Result A B) (P Q : A → Type 0) → ((x : A) → P x → Q x) → IfOk r P → IfOk r Q
+if_ok (Ok x) P Q f h = f x h
+if_ok (Err e) P Q f h = h
+
+pub if_some : {A : Type 0} (o : Option A) (P Q : A → Type 0) → ((x : A) → P x → Q x) → IfSome o P → IfSome o Q
+if_some (Some x) P Q f h = f x h
+if_some None P Q f h = h
+
+pub if_none : {A : Type 0} (o : Option A) (P Q : Type 0) → (P → Q) → IfNone o P → IfNone o Q
+if_none (Some x) P Q f h = h
+if_none None P Q f h = f h
 
 -- how many parts there are: those that a cursor has passed, and those from it on
 count_is : (class : Class) (bytes : List ℕ) (cursor : Cursor) (a : IsAt class bytes cursor) → part_count class bytes ≡ length a.passed + length (parts_at bytes cursor.place)
@@ -106,10 +120,10 @@ module _ (class : Class) (bytes : List ℕ) (cursor : Cursor) (a : IsAt class by
       omega (arith, whole, index, left)
 
   pub says_left : (part : List ℕ) (rest : List (List ℕ)) → parts_at bytes cursor.place ≡ part ∷ rest → IsTrue false ↔ (part_index class bytes cursor ≡ part_count class bytes)
-  says_left part rest here = (λ no. absurd no, λ same. let less = inside part rest here in absurd (omega (arith, less, same)))
+  says_left part rest here = (λ told. absurd (false≢true told), λ same. let less = inside part rest here in absurd (omega (arith, less, same)))
 
   pub says_ended : parts_at bytes cursor.place ≡ [] → IsTrue true ↔ (part_index class bytes cursor ≡ part_count class bytes)
-  says_ended none = (λ yes. ended none, λ same. tt)
+  says_ended none = (λ told. ended none, λ same. refl)
 
 -- a cursor that moves on by one part
 module _ (class : Class) (bytes : List ℕ) (cursor next : Cursor) (a : IsAt class bytes cursor) (one : parts_at bytes next.place ≡ drop 1 (parts_at bytes cursor.place)) (of : class_at next.place ≡ class_at cursor.place) (sound : IsSoundAt bytes next.place) (more : part_index class bytes cursor < part_count class bytes) where

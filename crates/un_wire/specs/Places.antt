@@ -1,10 +1,12 @@
 -- Where a walk over a transfer's parts stands.
-use Rattle.std.specs.Prelude.{ℕ, ◌≤◌, true, false, List, [], ◌∷◌, length}
+use Rattle.std.specs.Prelude.{◌≡◌, ℕ, ◌≤◌, true, false, List, [], ◌∷◌, length}
 use Rattle.un_eem.specs.Frames as packets
 use Rattle.un_frame.specs.declared.params.Class.{Class}
 use Rattle.un_frame.specs.declared.params.Class.TheVariants.{Ecm, Eem, Ncm16, Ncm32}
 use Rattle.un_frame.specs.Ntb.{ntb16, ntb32}
+use Rattle.un_frame.specs.Wire.{Reads}
 use Rattle.un_ntb.specs.Walk as blocks
+use Rattle.un_wire.specs.declared.cursor.Cursor.{Cursor}
 use Rattle.un_wire.specs.declared.cursor.Place.{Place}
 use Rattle.un_wire.specs.declared.cursor.Place.TheVariants.{Whole, Packet, Block16, Block32}
 
@@ -29,3 +31,16 @@ parts_at bytes (Whole false) = []
 parts_at bytes (Packet at) = packets.frames_from bytes at
 parts_at bytes (Block16 at) = blocks.parts_left ntb16 bytes at
 parts_at bytes (Block32 at) = blocks.parts_left ntb32 bytes at
+
+-- the commands of a transfer, which those of EEM alone may have
+abbrev pub commands_in : Class → List ℕ → ℕ
+commands_in Ecm bytes = 0
+commands_in Eem bytes = packets.commands_of bytes
+commands_in Ncm16 bytes = 0
+commands_in Ncm32 bytes = 0
+
+-- the cursor stands before the first of the frames that the transfer is read as
+pub record IsFirst (class : Class) (bytes : List ℕ) (cursor : Cursor) : Type 0 where
+  pub found : Reads class bytes (parts_at bytes cursor.place) (commands_in class bytes)
+  pub of_class : class_at cursor.place ≡ class
+  pub sound : IsSoundAt bytes cursor.place

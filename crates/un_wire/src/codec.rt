@@ -6,11 +6,11 @@ ghost use Rattle.un_frame.specs.Params.{Agree, AreInRange};
 ghost use Rattle.un_frame.specs.Parts.{datagram_of};
 ghost use Rattle.un_frame.specs.Wire.{fault_of};
 
-use crate::cursor::Cursor;
-use crate::ecm::{self, EcmWire};
-use crate::eem::{self, EemWire};
-use crate::ntb16::{self, Ntb16Wire};
-use crate::ntb32::{self, Ntb32Wire};
+use crate::cursor::{Cursor, begin};
+use crate::ecm::EcmWire;
+use crate::eem::EemWire;
+use crate::ntb16::Ntb16Wire;
+use crate::ntb32::Ntb32Wire;
 use crate::parts::Parts;
 use crate::wire::Wire;
 use std::alloc::{AllocError, Global};
@@ -45,6 +45,18 @@ impl Codec {
         }
     }
 
+    /// The class of its transfers.
+    fn class(&self) -> Class
+        ensures { result ≡ (coding_of self.now).params.class }
+    {
+        match self {
+            Codec::Ecm(codec) => codec.class(),
+            Codec::Eem(codec) => codec.class(),
+            Codec::Ncm16(codec) => codec.class(),
+            Codec::Ncm32(codec) => codec.class(),
+        }
+    }
+
     /// The cursor at the first part of a transfer, exactly where the grammar of the class reads it; else the fault that `read`
     /// answers. The whole transfer is checked. The cursor is at the end at once where the transfer has no part.
     pub fn cursor(&self, bytes: &[u8]) -> Result<Cursor, Fault>
@@ -52,12 +64,7 @@ impl Codec {
         ensures first { IfOk result (λ cursor. part_index (coding_of self.now).params.class bytes.now cursor ≡ 0) }
         ensures fault { fault_in result ≡ fault_of (coding_of self.now).params.class bytes.now }
     {
-        match self {
-            Codec::Ecm(_) => ecm::begin(bytes),
-            Codec::Eem(_) => eem::begin(bytes),
-            Codec::Ncm16(_) => ntb16::begin(bytes),
-            Codec::Ncm32(_) => ntb32::begin(bytes),
-        }
+        begin(self.class(), bytes)
     }
 
     /// Lends the part at a cursor, which came from these bytes and this codec; `None` exactly where no part is left.
@@ -80,7 +87,10 @@ impl Codec {
         ensures last { IsTrue result ↔ (part_index (coding_of self.now).params.class bytes.now cursor.new ≡ part_count (coding_of self.now).params.class bytes.now) }
     {
         *cursor = cursor.next(bytes);
-        cursor.part(bytes).is_none()
+        match cursor.part(bytes) {
+            Some(_) => false,
+            None => true,
+        }
     }
 }
 

@@ -1,7 +1,12 @@
 //! A walk over the parts of a transfer that keeps no borrow of its bytes.
 
-ghost use Rattle.std.specs.Prelude.{◌≡◌, ◌∷◌, [], List, ℕ, IfNone, IfOk, IfSome, IsTrue, ◌↔◌, drop};
-ghost use Rattle.un_wire.specs.Places.{IsSoundAt, class_at, parts_at};
+ghost use Rattle.std.specs.Prelude.{◌≡◌, ◌∷◌, [], List, ℕ, IfNone, IfOk, IfSome, None, drop};
+ghost use Rattle.un_frame.specs.Fault.{fault_in};
+ghost use Rattle.un_frame.specs.Wire.{fault_of};
+ghost use Rattle.un_wire.specs.Places.{IsFirst, IsSoundAt, class_at, commands_in, parts_at};
+
+use un_frame::{Class, Fault};
+use un_packet::ecm_read;
 
 /// The place of a part in a transfer, by the form of its class.
 #[derive(Clone, Copy, Debug)]
@@ -31,13 +36,7 @@ impl Cursor {
         ensures end { IfNone result (parts_at bytes.now self.now.place ≡ []) }
     {
         match self.place {
-            Place::Whole(is_left) => {
-                if is_left {
-                    Some(bytes)
-                } else {
-                    None
-                }
-            }
+            Place::Whole(is_left) => { if is_left { Some(bytes) } else { None } }
             Place::Packet(at) => un_eem::part_at(bytes, at),
             Place::Block16(at) => un_ntb::part_at::<2>(bytes, at),
             Place::Block32(at) => un_ntb::part_at::<4>(bytes, at),
@@ -58,5 +57,49 @@ impl Cursor {
             Place::Block32(at) => Place::Block32(un_ntb::next::<4>(bytes, at)),
         };
         Cursor { place }
+    }
+}
+
+/// The cursor at the first part of a transfer of this class, or the first fault with its place.
+pub(crate) fn begin(class: Class, bytes: &[u8]) -> Result<Cursor, Fault>
+    ensures first { IfOk result (λ cursor. IsFirst class bytes.now cursor) }
+    ensures fault { fault_in result ≡ fault_of class bytes.now }
+{
+    match class {
+        Class::Ecm => {
+            ecm_read(bytes)?;
+            Ok(Cursor {
+                place: Place::Whole(true),
+            })
+        }
+        Class::Eem => {
+            let at = un_eem::begin(bytes)?;
+            Ok(Cursor {
+                place: Place::Packet(at),
+            })
+        }
+        Class::Ncm16 => {
+            let at = un_ntb::begin::<2>(bytes)?;
+            Ok(Cursor {
+                place: Place::Block16(at),
+            })
+        }
+        Class::Ncm32 => {
+            let at = un_ntb::begin::<4>(bytes)?;
+            Ok(Cursor {
+                place: Place::Block32(at),
+            })
+        }
+    }
+}
+
+/// How many commands a transfer without a fault has, which those of EEM alone may.
+pub(crate) fn commands(class: Class, bytes: &[u8]) -> u64
+    requires { fault_of class bytes.now ≡ None }
+    ensures { result ≡ commands_in class bytes.now }
+{
+    match class {
+        Class::Eem => un_eem::commands(bytes),
+        Class::Ecm | Class::Ncm16 | Class::Ncm32 => 0,
     }
 }

@@ -1,18 +1,14 @@
 //! Transfers of ECM.
 
-ghost use Rattle.std.specs.Prelude.{◌≡◌, IfOk};
+ghost use Rattle.std.specs.Prelude.{◌≡◌};
 ghost use Rattle.un_frame.specs.declared.params.Class.TheVariants.{Ecm};
-ghost use Rattle.un_frame.specs.Fault.{fault_in};
-ghost use Rattle.un_frame.specs.Wire.{Reads, fault_of};
 ghost use Rattle.un_wire.specs.Codings.{fresh};
-ghost use Rattle.un_wire.specs.Places.{IsSoundAt, class_at, parts_at};
 
-use crate::cursor::{Cursor, Place};
-use crate::parts::Parts;
+use crate::parts::{Parts, read};
 use crate::wire::Wire;
 use std::marker::Model;
-use un_frame::{Fault, Params};
-use un_packet::{ecm_append, ecm_read};
+use un_frame::{Class, Fault, Params};
+use un_packet::ecm_append;
 use un_req::Request;
 
 /// A codec of ECM: a transfer is one frame (ECM 1.2, 3.3).
@@ -46,19 +42,13 @@ impl EcmWire {
             is_open: false,
         }
     }
-}
 
-/// The cursor at the frame of a transfer, or the first fault.
-pub(crate) fn begin(bytes: &[u8]) -> Result<Cursor, Fault>
-    ensures found { IfOk result (λ cursor. Reads Ecm bytes.now (parts_at bytes.now cursor.place) 0) }
-    ensures class { IfOk result (λ cursor. class_at cursor.place ≡ Ecm) }
-    ensures sound { IfOk result (λ cursor. IsSoundAt bytes.now cursor.place) }
-    ensures fault { fault_in result ≡ fault_of Ecm bytes.now }
-{
-    ecm_read(bytes)?;
-    Ok(Cursor {
-        place: Place::Whole(true),
-    })
+    /// Its class.
+    pub(crate) fn class(&self) -> Class
+        ensures { result ≡ self.now.params.class }
+    {
+        self.params.class
+    }
 }
 
 impl Wire for EcmWire {
@@ -96,12 +86,6 @@ impl Wire for EcmWire {
     }
 
     fn read<'a>(&self, bytes: &'a [u8]) -> Result<Parts<'a>, Fault> {
-        let _params = &self.params;
-        let cursor = begin(bytes)?;
-        Ok(Parts {
-            bytes,
-            cursor,
-            commands: 0,
-        })
+        read(self.params.class, bytes)
     }
 }

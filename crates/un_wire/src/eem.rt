@@ -1,19 +1,14 @@
 //! Transfers of EEM.
 
-ghost use Rattle.std.specs.Prelude.{◌≡◌, IfOk};
+ghost use Rattle.std.specs.Prelude.{◌≡◌};
 ghost use Rattle.un_frame.specs.declared.params.Class.TheVariants.{Eem};
-ghost use Rattle.un_frame.specs.Fault.{fault_in};
 ghost use Rattle.un_frame.specs.Params.{AreInRange};
-ghost use Rattle.un_eem.specs.Frames.{commands_of};
-ghost use Rattle.un_frame.specs.Wire.{Reads, fault_of};
 ghost use Rattle.un_wire.specs.Codings.{fresh};
-ghost use Rattle.un_wire.specs.Places.{IsSoundAt, class_at, parts_at};
 
-use crate::cursor::{Cursor, Place};
-use crate::parts::Parts;
+use crate::parts::{Parts, read};
 use crate::wire::Wire;
 use std::marker::Model;
-use un_frame::{Fault, Params};
+use un_frame::{Class, Fault, Params};
 use un_req::Request;
 
 /// A codec of EEM: it writes one frame to a transfer, as a data packet, and reads any packets (EEM 1.0, 5.1).
@@ -48,19 +43,13 @@ impl EemWire {
             is_open: false,
         }
     }
-}
 
-/// The cursor at the first frame of a transfer, or the first fault.
-pub(crate) fn begin(bytes: &[u8]) -> Result<Cursor, Fault>
-    ensures found { IfOk result (λ cursor. Reads Eem bytes.now (parts_at bytes.now cursor.place) (commands_of bytes.now)) }
-    ensures class { IfOk result (λ cursor. class_at cursor.place ≡ Eem) }
-    ensures sound { IfOk result (λ cursor. IsSoundAt bytes.now cursor.place) }
-    ensures fault { fault_in result ≡ fault_of Eem bytes.now }
-{
-    let at = un_eem::begin(bytes)?;
-    Ok(Cursor {
-        place: Place::Packet(at),
-    })
+    /// Its class.
+    pub(crate) fn class(&self) -> Class
+        ensures { result ≡ self.now.params.class }
+    {
+        self.params.class
+    }
 }
 
 impl Wire for EemWire {
@@ -99,12 +88,6 @@ impl Wire for EemWire {
     }
 
     fn read<'a>(&self, bytes: &'a [u8]) -> Result<Parts<'a>, Fault> {
-        let _params = &self.params;
-        let cursor = begin(bytes)?;
-        Ok(Parts {
-            bytes,
-            cursor,
-            commands: un_eem::commands(bytes),
-        })
+        read(self.params.class, bytes)
     }
 }

@@ -21,5 +21,5 @@ pub use eem::EemWire;
 pub use laws::{forms_are_read, open_transfers, parts_are_one, segments_fit};
 pub use ntb16::Ntb16Wire;
 pub use ntb32::Ntb32Wire;
-pub use parts::Parts;
+pub use parts::{Parts, read};
 pub use wire::Wire;

@@ -2,18 +2,14 @@
 
 ghost use Rattle.std.specs.Prelude.{◌≡◌, IfOk};
 ghost use Rattle.un_frame.specs.declared.params.Class.TheVariants.{Ncm32};
-ghost use Rattle.un_frame.specs.Fault.{fault_in};
 ghost use Rattle.un_frame.specs.Params.{Agree, AreInRange};
-ghost use Rattle.un_frame.specs.Wire.{Reads, fault_of};
 ghost use Rattle.un_wire.specs.Codings.{fresh};
-ghost use Rattle.un_wire.specs.Places.{IsSoundAt, class_at, parts_at};
 
-use crate::cursor::{Cursor, Place};
-use crate::parts::Parts;
+use crate::parts::{Parts, read};
 use crate::wire::Wire;
 use std::alloc::{AllocError, Global};
 use std::marker::Model;
-use un_frame::{Fault, Params};
+use un_frame::{Class, Fault, Params};
 use un_ntb32::Writer;
 use un_req::Request;
 
@@ -56,19 +52,13 @@ impl Ntb32Wire {
             writer,
         })
     }
-}
 
-/// The cursor at the first frame of a transfer, or the first fault.
-pub(crate) fn begin(bytes: &[u8]) -> Result<Cursor, Fault>
-    ensures found { IfOk result (λ cursor. Reads Ncm32 bytes.now (parts_at bytes.now cursor.place) 0) }
-    ensures class { IfOk result (λ cursor. class_at cursor.place ≡ Ncm32) }
-    ensures sound { IfOk result (λ cursor. IsSoundAt bytes.now cursor.place) }
-    ensures fault { fault_in result ≡ fault_of Ncm32 bytes.now }
-{
-    let at = un_ntb::begin::<4>(bytes)?;
-    Ok(Cursor {
-        place: Place::Block32(at),
-    })
+    /// Its class.
+    pub(crate) fn class(&self) -> Class
+        ensures { result ≡ self.now.params.class }
+    {
+        self.params.class
+    }
 }
 
 impl Wire for Ntb32Wire {
@@ -103,12 +93,6 @@ impl Wire for Ntb32Wire {
     }
 
     fn read<'a>(&self, bytes: &'a [u8]) -> Result<Parts<'a>, Fault> {
-        let _params = &self.params;
-        let cursor = begin(bytes)?;
-        Ok(Parts {
-            bytes,
-            cursor,
-            commands: 0,
-        })
+        read(self.params.class, bytes)
     }
 }

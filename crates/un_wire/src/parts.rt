@@ -1,9 +1,12 @@
 //! The frames of a transfer, lent one after the other.
 
-ghost use Rattle.std.specs.Prelude.{◌≡◌, ◌∷◌, [], IfNone, IfSome};
+ghost use Rattle.std.specs.Prelude.{◌≡◌, ◌∷◌, [], IfNone, IfOk, IfSome};
+ghost use Rattle.un_frame.specs.Fault.{fault_in};
+ghost use Rattle.un_frame.specs.Wire.{Reads, fault_of};
 
-use crate::cursor::Cursor;
+use crate::cursor::{Cursor, begin, commands};
 use std::marker::Model;
+use un_frame::{Class, Fault};
 
 /// The frames of a transfer that are left, as parts of its bytes, and how many commands the transfer has. A contract sees the list
 /// of frames and the number.
@@ -43,4 +46,18 @@ impl<'a> Parts<'a> {
     {
         self.commands
     }
+}
+
+/// Reads a transfer of this class, whatever else a link's parameters are: its frames, lent from its bytes, exactly where the grammar
+/// of the class reads it; else the first fault with its place. The whole transfer is checked before a frame is lent.
+pub fn read(class: Class, bytes: &[u8]) -> Result<Parts<'_>, Fault>
+    ensures found { IfOk result (λ parts. Reads class bytes.now parts.frames parts.commands) }
+    ensures fault { fault_in result ≡ fault_of class bytes.now }
+{
+    let cursor = begin(class, bytes)?;
+    Ok(Parts {
+        bytes,
+        cursor,
+        commands: commands(class, bytes),
+    })
 }
