@@ -1,0 +1,16 @@
+use Rattle.std.proofs.Common.{arith}
+use Rattle.un_toy.specs.Queue.{is_took, is_flying, is_landed}
+use Rattle.un_toy.proofs.Counts.{pushed}
+use Rattle.un_toy.proofs.Queue.offer.Goals as goal
+
+pub invariant_of-self-inside : goal.invariant_of-self-inside
+invariant_of-self-inside c =
+    let s = c.args.self.now in
+    let grows = c.push.ensures.history in
+    record {
+      offers = omega (arith, s.offers, pushed is_took _ _ _ grows);
+      flights = omega (arith, s.flights, pushed is_flying _ _ _ grows);
+      landings = omega (arith, s.landings, pushed is_landed _ _ _ grows);
+      order = (omega arith, omega arith, omega arith, omega arith);
+      room = omega (arith, s.room, c.push.ensures.lines);
+    }
