@@ -12,6 +12,8 @@ mod laws;
 mod ntb16;
 mod ntb32;
 mod parts;
+#[cfg(test)]
+mod tests;
 mod wire;
 
 pub use codec::Codec;

@@ -1,0 +1,86 @@
+//! Codecs of each class: frames there and back, and a cursor's walk.
+
+ghost use Rattle.std.specs.Prelude.{◌≡◌, ◌≤◌, [], IsTrue, length};
+ghost use Rattle.un_frame.specs.Params.{Agree, AreInRange};
+ghost use Rattle.un_frame.specs.Wire.{capacity_of, frame_fits};
+ghost use Rattle.un_wire.specs.Codings.{coding_of};
+
+use crate::{Codec, Wire};
+use std::test::Fail;
+use un_frame::{Class, Params};
+use un_req::{Pool, Request};
+
+/// The block of one frame of 60 bytes, to 02:00:00:00:00:02 from 02:00:00:00:00:01.
+const BLOCK: [u8; 92] = *b"NCMH\x0c\0\0\0\x5c\0\x4c\0\
+\0\0\x02\0\0\0\0\x02\x02\0\0\0\0\x01\x08\0\
+\0\0\0\0\0\0\0\0\0\0\0\0\0\0\0\0\0\0\0\0\0\0\0\
+\0\0\0\0\0\0\0\0\0\0\0\0\0\0\0\0\0\0\0\0\0\0\0\
+\0\0NCM0\x10\0\0\0\x0e\0\x3c\0\0\0\0\0";
+
+/// The parameters of a link of which the class alone is given.
+fn params(class: Class) -> Params
+    ensures in_range { AreInRange result }
+    ensures agree { Agree result }
+{
+    Params {
+        class,
+        segment: 1514,
+        packet: 512,
+        filter: 0x0e,
+        block: 16384,
+        datagrams: 32,
+        divisor: 4,
+        remainder: 0,
+        alignment: 4,
+        tx_out: 8,
+        rx_out: 8,
+        tx_in: 8,
+        rx_in: 8,
+    }
+}
+
+/// Writes a transfer of one frame.
+fn write_one(codec: &mut Codec, request: &mut Request, frame: &[u8])
+    requires empty { request.old.bytes ≡ [] }
+    requires capacity { capacity_of (coding_of codec.old).params ≤ request.old.capacity }
+    requires least { 14 ≤ length frame.now }
+    requires fits { IsTrue (frame_fits (coding_of codec.old).params [] (length frame.now)) }
+{
+    codec.start(request);
+    codec.append(request, frame);
+    codec.close(request, 0);
+}
+
+#[test]
+fn a_frame_there_and_back(rt: HostRuntime) -> Result<(), Fail> {
+    let frame = &BLOCK[14..74];
+    for (class, length) in [
+        (Class::Ecm, 60),
+        (Class::Eem, 66),
+        (Class::Ncm16, 92),
+        (Class::Ncm32, 112),
+    ] {
+        let mut codec = Codec::make(rt.alloc(), &params(class))?;
+        let mut pool = Pool::make(rt.alloc(), 1, codec.capacity())?;
+        let mut request = pool.take().ok_or("none is home")?;
+        assert_eq!(rt; codec.count(), 0);
+        assert!(rt; codec.fits(60));
+        write_one(&mut codec, &mut request, frame);
+        assert_eq!(rt; request.bytes().len(), length);
+        let mut parts = codec.read(request.bytes()).ok().ok_or("a fault")?;
+        assert_eq!(rt; parts.commands(), 0);
+        assert!(rt; parts.next() == Some(frame));
+        assert!(rt; parts.next().is_none());
+    }
+    Ok(())
+}
+
+#[test]
+fn a_cursor_walks_a_block(rt: HostRuntime) -> Result<(), Fail> {
+    let codec = Codec::make(rt.alloc(), &params(Class::Ncm16))?;
+    let mut cursor = codec.cursor(&BLOCK).ok().ok_or("a fault")?;
+    assert!(rt; codec.part_at(&BLOCK, &cursor) == Some(&BLOCK[14..74]));
+    assert!(rt; codec.advance(&BLOCK, &mut cursor));
+    assert!(rt; codec.part_at(&BLOCK, &cursor).is_none());
+    Ok(())
+}
