@@ -1,3 +1,4 @@
 pub mod Walk
 pub mod Items
+pub mod Frames
 pub mod Transfer

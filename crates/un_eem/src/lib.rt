@@ -6,7 +6,9 @@ mod header;
 mod items;
 #[cfg(test)]
 mod tests;
+mod walk;
 mod writer;
 
 pub use items::{Item, Items, read};
+pub use walk::{begin, commands, next, part_at};
 pub use writer::{append, finish};

@@ -1,8 +1,6 @@
 -- What the two formats have in common.
-use Rattle.std.proofs.Common.{◌≡◌, ℕ, ◌+◌, ◌*◌, ◌%◌, ◌≤◌, Bool, true, false, ◌==◌, if◌then◌else◌, refl, arith, List, Option}
-use Rattle.un_frame.specs.declared.params.Class.{Class}
+use Rattle.std.proofs.Common.{◌≡◌, ℕ, ◌≤◌, Bool, true, false, ◌==◌, if◌then◌else◌, refl, arith, List}
 use Rattle.un_frame.specs.declared.params.Class.TheVariants.{Ncm16, Ncm32}
-use Rattle.un_frame.specs.declared.fault.Fault.{Fault}
 use Rattle.un_frame.specs.Bytes.{Place}
 use Rattle.un_frame.specs.Ntb.{Format, NtbReads, ntb_fault, ntb16, ntb32}
 use Rattle.un_frame.specs.Params.{most_block}

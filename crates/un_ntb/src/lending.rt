@@ -1,5 +1,5 @@
-//! How long a part is lent: until its bytes are given up, and no longer. Nothing calls this; the wrong body
-//! must-fail/part_outlives_its_bytes.edit keeps a part past that, and isn't a program.
+//! How long a part is lent: until its bytes are given up, and no longer. Nothing calls this; the change in
+//! must-fail/part_outlives_its_bytes.md keeps a part past that, and the compiler refuses it.
 
 ghost use Rattle.std.specs.Prelude.{◌≡◌, []};
 

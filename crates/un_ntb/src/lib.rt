@@ -8,9 +8,12 @@ mod fields;
 mod lending;
 mod parts;
 mod table;
+mod walk;
 mod writer;
 
+pub use cursor::Cursor;
 pub use parts::{Parts, read};
+pub use walk::{begin, next, part_at};
 pub use writer::Writer;
 
 #[cfg(test)]

@@ -4,3 +4,4 @@ pub mod Heard
 pub mod Ranges
 pub mod Standings
 pub mod LawLemmas
+pub mod Plans

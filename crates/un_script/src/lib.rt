@@ -4,6 +4,7 @@
 mod law;
 mod lines;
 mod numbers;
+mod plan;
 mod reader;
 mod script;
 mod standing;

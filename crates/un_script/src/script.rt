@@ -1,12 +1,12 @@
 //! What a script says.
 
 ghost use Rattle.std.specs.Prelude.{◌≡◌, ◌<◌, ◌≤◌, ◌∷◌, ◌++◌, [], None, Some, length, OnOk, OnErr, IsTrue, MatchOption, slice_get, unwrap_or};
-ghost use Rattle.un_frame.specs.Lanes.{same_lane};
 ghost use Rattle.un_frame.specs.Params.{AreInRange};
-ghost use Rattle.un_journal.specs.Script.{planned, planned_in, frames_of, feed_list};
+ghost use Rattle.un_journal.specs.Script.{planned, frames_of, feed_list};
 ghost use Rattle.un_script.specs.Parts.{empty_script, no_frames, frame_added, with_frame, frame_count, standing_of, may_come};
 ghost use Rattle.un_script.specs.Table.{is_sender, is_want, is_planned_serial, MOST_FRAMES, MOST_CONTROLS, MOST_FAULTS};
 
+use crate::plan::Plan;
 use crate::standing::{Standing, stands_after};
 use std::alloc::{AllocError, Global};
 use std::marker::Model;
@@ -88,7 +88,7 @@ pub struct Script {
     outward: Senders,
     inward: Senders,
     controls: Vec<Due>,
-    faults: Vec<Planned>,
+    faults: Plan,
     frames: u32,
     standing: Standing,
 }
@@ -101,7 +101,7 @@ impl Model for Script {
 
     ghost use Rattle.un_script.specs.Parts.{standing_of, frames_in_all};
 
-    ghost view = { λ s. record { params = s.params; outward = s.outward; inward = s.inward; controls = s.controls.items; faults = s.faults.items } };
+    ghost view = { λ s. record { params = s.params; outward = s.outward; inward = s.inward; controls = s.controls.items; faults = s.faults } };
 
     ghost invariant = { λ s. (s.frames ≡ frames_in_all s.outward + frames_in_all s.inward) × (standing_of s.controls.items ≡ Some s.standing) };
 }
@@ -118,7 +118,7 @@ impl Script {
             outward: Senders::make(alloc),
             inward: Senders::make(alloc),
             controls: Vec::new(alloc),
-            faults: Vec::new(alloc),
+            faults: Plan::make(alloc),
             frames: 0,
             standing: Standing::AtWork,
         }
@@ -187,7 +187,7 @@ impl Script {
         ensures ok { OnOk result (self.new ≡ record self.old { faults = self.old.faults ++ record { lane = lane; serial = serial; kind = kind } ∷ [] }) }
         ensures err { OnErr result (self.new ≡ self.old) }
     {
-        self.faults.push(Planned { lane, serial, kind })?;
+        self.faults.add(Planned { lane, serial, kind })?;
         Ok(())
     }
 
@@ -212,27 +212,6 @@ impl Script {
     pub fn fault(&self, lane: Lane, serial: u64) -> Option<FaultKind>
         ensures { result ≡ planned self.now lane serial }
     {
-        planned(&self.faults, lane, serial)
-    }
-}
-
-/// What a plan has for a transfer.
-fn planned(faults: &[Planned], lane: Lane, serial: u64) -> Option<FaultKind>
-    ensures { result ≡ planned_in faults.now lane serial }
-{
-    for fault in faults {
-        if same_lane(fault.lane, lane) && fault.serial == serial {
-            return Some(fault.kind);
-        }
-    }
-    None
-}
-
-fn same_lane(a: Lane, b: Lane) -> bool
-    ensures { result ≡ Rattle.un_frame.specs.Lanes.same_lane a b }
-{
-    match (a, b) {
-        (Lane::Outward, Lane::Outward) | (Lane::Inward, Lane::Inward) => true,
-        _ => false,
+        self.faults.find(lane, serial)
     }
 }

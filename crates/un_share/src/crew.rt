@@ -48,7 +48,13 @@ pub trait Shop<S> {
         ensures longer { StartsWith (view result).seen (view left).seen × StartsWith (view result).seen (view right).seen };
 
     /// The turns of one worker.
-    fn work<R: Wait, G: Gate>(&self, rt: &R, place: Self::Place, gate: &G, actor: u32) -> Self::Place
+    fn work<R: Wait, G: Gate>(
+        &self,
+        rt: &R,
+        place: Self::Place,
+        gate: &G,
+        actor: u32,
+    ) -> Self::Place
         requires here { is_here self.now place }
         requires none_known { (view place).known ≡ [] }
         ensures here { is_here self.now result }

@@ -12,7 +12,6 @@ mod part;
 mod tests;
 
 pub use part::{QueueDone, QueuePart};
-
 use std::alloc::{AllocError, Global};
 use std::marker::Model;
 use un_frame::Lane;

@@ -63,7 +63,11 @@ fn offer<R: Wait>(rt: &R, turn: &Turn<Queue>, seat: Seat<Queue>) -> Seat<Queue>
     guard.leave()
 }
 
-fn offer_twice<R: Threads + Wait + Sync>(rt: &R, turn: &Turn<Queue>, seat: Seat<Queue>) -> Seat<Queue>
+fn offer_twice<R: Threads + Wait + Sync>(
+    rt: &R,
+    turn: &Turn<Queue>,
+    seat: Seat<Queue>,
+) -> Seat<Queue>
     requires turn { seat.turn ≡ turn.now }
     requires none_known { seat.view.known ≡ [] }
     requires shares { 1 < seat.view.shares }

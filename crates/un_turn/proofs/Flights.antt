@@ -76,4 +76,3 @@ times-without r (y ∷ xs) h x = go (same_flight r y) refl (times-without r xs)
 pub empty : (xs : List Flight) → ((x : Flight) → times x xs ≡ 0) → xs ≡ []
 empty [] h = refl
 empty (y ∷ xs) h = absurd (omega (arith, h y, ap one_if (same_flight-refl y)))
-

@@ -40,7 +40,6 @@ only_one f (x ∷ xs) zero v e zeros = omega (arith, ap f (some-injective x v e)
     none_of f (x ∷ xs) zeros = omega (arith, zeros 0 x refl, none_of f xs (λ j u at. zeros (suc j) u at))
 only_one f (x ∷ xs) (suc i) v e zeros = omega (arith, zeros 0 x (λ h. omega arith) refl, only_one f xs i v e (λ j u n at. zeros (suc j) u (λ h. n (omega (arith, h))) at))
 
-
 module _ {A : Type 0} (f : A → ℕ) where
   pub one_has : (l : List A) → total_of f l ≡ 1 → OneHas f l
   one_has [] e = absurd (omega arith)
@@ -55,4 +54,3 @@ module _ {A : Type 0} (f : A → ℕ) where
       rest : total_of f xs ≡ 0 → (k : ℕ) (u : A) → k ≢ 0 → get_elem? (x ∷ xs) k ≡ some u → f u ≡ 0
       rest none zero u n at = absurd (n refl)
       rest none (suc k) u n at = omega (arith, term_le f xs k u at, none)
-

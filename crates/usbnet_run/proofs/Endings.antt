@@ -1,5 +1,5 @@
 -- What is read and told, through what is lent.
-use Rattle.std.proofs.Common.{ℕ, List, [], ◌∷◌, ◌++◌, ◌≡◌, codes, decimal, Option, Result, Ok, refl, sym, ap, subst, ◌∙◌}
+use Rattle.std.proofs.Common.{ℕ, List, [], ◌∷◌, ◌++◌, ◌≡◌, codes, decimal, Option, Result, Ok, sym, ap, subst, ◌∙◌}
 use Rattle.un_frame.specs.Params.{AreInRange}
 use Rattle.un_journal.specs.Script.{Script}
 use Rattle.un_script.specs.declared.why.Why.{Why}

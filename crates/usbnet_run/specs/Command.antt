@@ -1,5 +1,5 @@
 -- What a command answers: its statuses, what each says, and the line that a refusal writes.
-use Rattle.std.specs.Prelude.{◌≡◌, ℕ, ◌+◌, ◌≤◌, Bool, true, false, List, [], ◌∷◌, ◌++◌, length, codes, decimal, ◌⊎◌, Option, Some, Result, Ok, Err}
+use Rattle.std.specs.Prelude.{◌≡◌, ◌↔◌, ℕ, ◌+◌, ◌<◌, ◌≤◌, Bool, true, false, List, [], ◌∷◌, ◌++◌, length, codes, decimal, ◌⊎◌, Option, Some, Result, Ok, Err}
 use Rattle.std.specs.Str.{bytes_eq}
 use Rattle.std.specs.Io.KnownBytes.{Appends, Consumes, IsAtEnd}
 use Rattle.un_io.specs.Io.{Stopped}
@@ -35,7 +35,7 @@ abbrev pub IsWhole : List ℕ → Option (List ℕ) → Type 0
 IsWhole given left = IsAtEnd left × (length given ≤ MOST_INPUT)
 
 -- What each status says: of the words, of the bytes that the source gave and what it has left, and of what the sink holds before
--- and after. No two of them can hold together, but for want of memory and a fault.
+-- and after.
 pub data Ends (words : List (List ℕ)) (given : List ℕ) (left held held' : Option (List ℕ)) : ℕ → Type 0 where
   done : (script : Script) (history : History) → is_serial words ≡ true → IsWhole given left → script_of given ≡ Ok script
       → Appends held held' (trace history) → Ends words given left held held' 0
@@ -49,6 +49,23 @@ pub data Ends (words : List (List ℕ)) (given : List ℕ) (left held held' : Op
       → Tells held held' (bad_script_line line why) → Ends words given left held held' 5
   too_large : is_serial words ≡ true → length given ≡ MOST_INPUT + 1 → Tells held held' (codes "too large\n")
       → Ends words given left held held' 7
+
+-- the text of no script
+abbrev pub IsNoScript : List ℕ → Type 0
+IsNoScript given = (line : ℕ) × (why : Why) × (script_of given ≡ Err (line, why))
+
+-- Each refusal comes exactly where it is due, but for want of memory, which is free, and a read fault, which may come at any place
+-- of the input.
+pub record RefusesExactly (words : List (List ℕ)) (given : List ℕ) (status : ℕ) : Type 0 where
+  pub of_words : (status ≡ 4) ↔ (is_serial words ≡ false)
+  pub of_script : status ≡ 5 → IsNoScript given
+  pub of_no_script : is_serial words ≡ true → length given ≤ MOST_INPUT → IsNoScript given → (status ≡ 2 → ⊥) → (status ≡ 5) ⊎ (status ≡ 1)
+  pub of_size : status ≡ 7 → MOST_INPUT < length given
+  pub of_more : MOST_INPUT < length given → (status ≡ 7) ⊎ (status ≡ 1)
+
+abbrev pub RefusalsAreExact : Type 0
+RefusalsAreExact = (words : List (List ℕ)) (given : List ℕ) (left held held' : Option (List ℕ)) (status : ℕ)
+    → Ends words given left held held' status → RefusesExactly words given status
 
 -- Completeness: where the words are right and the source told a script's text that isn't too long, a status that isn't a fault's
 -- is 0, or want of memory's; and at 0 the whole text was read.

@@ -4,7 +4,7 @@ ghost use Rattle.std.specs.Prelude.{◌≡◌, ◌≤◌, ℕ, List, map, length
 ghost use Rattle.std.specs.String.{string_bytes};
 ghost use Rattle.std.specs.Io.KnownBytes.{Consumes};
 ghost use Rattle.un_io.specs.Io.{Rose};
-ghost use Rattle.usbnet_run.specs.Command.{Ends, IsComplete, Tells, is_serial, why_word, bad_script_line};
+ghost use Rattle.usbnet_run.specs.Command.{Ends, IsComplete, RefusalsAreExact, Tells, is_serial, why_word, bad_script_line};
 
 use crate::serial::run_script;
 use std::alloc::Global;
@@ -120,4 +120,9 @@ pub fn plain_command<I: Source, O: Sink>(
 /// The command does its work wherever it can.
 pub fn command_is_complete()
     ensures { IsComplete }
+{}
+
+/// Each refusal comes exactly where it is due, but for want of memory and a read fault.
+pub fn refusals_are_exact()
+    ensures { RefusalsAreExact }
 {}

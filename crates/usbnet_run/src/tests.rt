@@ -23,21 +23,26 @@ fn filled(alloc: Global, pieces: &[Piece]) -> Result<Vec<u8>, AllocError> {
     Ok(text)
 }
 
+/// A script of one frame of 60 bytes.
+fn small(alloc: Global) -> Result<Vec<u8>, AllocError> {
+    filled(alloc, &[(b"class ecm\nrequests 1 1 1 1\nout 0 ", 60)])
+}
+
 /// So many zero bytes.
 fn zeros(alloc: Global, size: usize) -> Result<Vec<u8>, AllocError> {
     vec![in alloc; 0u8; size]
 }
 
-/// The status of the command for these words and this input, and the sink, where these calls fail.
+/// The status of the command for this word or none and this input, and the sink, where these calls fail.
 fn answer(
     alloc: Global,
-    words: &[&str],
+    word: Option<&str>,
     input: Vec<u8>,
     reads: &[u64],
     writes: &[u64],
 ) -> Result<(u8, MemSink), AllocError> {
     let mut owned = Vec::new(alloc);
-    for word in words {
+    if let Some(word) = word {
         owned.push(String::from_str(alloc, word)?)?;
     }
     let mut source = MemSource::make(input, 1 << 20, Vec::from_slice(alloc, reads)?);
@@ -67,7 +72,7 @@ fn a_frame_goes_through_unchanged(rt: HostRuntime) -> Result<(), Fail> {
                 (b"\nposted out\nend\n", 0),
             ],
         )?;
-        let (status, sink) = answer(rt.alloc(), &["serial"], input, &[], &[])?;
+        let (status, sink) = answer(rt.alloc(), Some("serial"), input, &[], &[])?;
         assert_eq!(rt; status, 0);
         assert_eq!(rt; sink.held(), trace.as_slice());
     }
@@ -101,7 +106,7 @@ fn short_and_long_frames_are_refused(rt: HostRuntime) -> Result<(), Fail> {
             ),
         ],
     )?;
-    let (status, sink) = answer(rt.alloc(), &["serial"], input, &[], &[])?;
+    let (status, sink) = answer(rt.alloc(), Some("serial"), input, &[], &[])?;
     assert_eq!(rt; status, 0);
     assert_eq!(rt; sink.held(), trace.as_slice());
     Ok(())
@@ -110,17 +115,16 @@ fn short_and_long_frames_are_refused(rt: HostRuntime) -> Result<(), Fail> {
 #[test]
 fn faults_and_bad_words_are_told(rt: HostRuntime) -> Result<(), Fail> {
     let long = zeros(rt.alloc(), 16_777_217)?;
-    let (status, sink) = answer(rt.alloc(), &["serial"], long, &[], &[])?;
+    let (status, sink) = answer(rt.alloc(), Some("serial"), long, &[], &[])?;
     assert_eq!(rt; (status, sink.held()), (7, b"too large\n".as_slice()));
-    let row: &[Piece] = &[(b"class ecm\nrequests 1 1 1 1\nout 0 ", 60)];
-    let input = filled(rt.alloc(), row)?;
-    let (status, sink) = answer(rt.alloc(), &[], input, &[], &[])?;
+    let input = small(rt.alloc())?;
+    let (status, sink) = answer(rt.alloc(), None, input, &[], &[])?;
     assert_eq!(rt; (status, sink.held()), (4, b"bad words\n".as_slice()));
-    let input = filled(rt.alloc(), row)?;
-    let (status, sink) = answer(rt.alloc(), &["serial"], input, &[0], &[])?;
+    let input = small(rt.alloc())?;
+    let (status, sink) = answer(rt.alloc(), Some("serial"), input, &[0], &[])?;
     assert_eq!(rt; (status, sink.held()), (2, b"read fault\n".as_slice()));
-    let input = filled(rt.alloc(), row)?;
-    let (status, sink) = answer(rt.alloc(), &["serial"], input, &[], &[0])?;
+    let input = small(rt.alloc())?;
+    let (status, sink) = answer(rt.alloc(), Some("serial"), input, &[], &[0])?;
     assert_eq!(rt; (status, sink.held()), (3, b"".as_slice()));
     Ok(())
 }
@@ -129,7 +133,7 @@ fn faults_and_bad_words_are_told(rt: HostRuntime) -> Result<(), Fail> {
 fn texts_that_are_no_script_are_refused(rt: HostRuntime) -> Result<(), Fail> {
     for text in [b"class wifi".as_slice(), b""] {
         let input = Vec::from_slice(rt.alloc(), text)?;
-        let (status, sink) = answer(rt.alloc(), &["serial"], input, &[], &[])?;
+        let (status, sink) = answer(rt.alloc(), Some("serial"), input, &[], &[])?;
         assert_eq!(rt;
             (status, sink.held()),
             (5, b"bad script 1 form\n".as_slice())

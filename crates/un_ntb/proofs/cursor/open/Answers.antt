@@ -1,4 +1,4 @@
-use Rattle.std.proofs.Common.{◌≡◌, ◌+◌, ◌-◌, sym, arith}
+use Rattle.std.proofs.Common.{◌-◌, sym, arith}
 use Rattle.un_frame.proofs.NtbCursorLemmas.{left_open, IsCursor_open}
 use Rattle.un_ntb.specs.Formats.{format_of}
 use Rattle.un_ntb.proofs.cursor.open.Goals as goal

@@ -1,4 +1,4 @@
-use Rattle.std.proofs.Common.{◌≡◌, ◌+◌, ◌-◌, sym, ◌∙◌, arith, inl, inr}
+use Rattle.std.proofs.Common.{◌-◌, sym, ◌∙◌, arith, inl, inr}
 use Rattle.un_frame.proofs.NtbCursorLemmas.{left_end, left_null, IsCursor_open, IsCursor_null}
 use Rattle.un_ntb.specs.Formats.{format_of}
 use Rattle.un_ntb.proofs.cursor.settle.Goals as goal

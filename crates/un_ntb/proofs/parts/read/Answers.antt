@@ -1,5 +1,5 @@
-use Rattle.std.proofs.Common.{◌≡◌, sym}
-use Rattle.un_frame.proofs.NtbCursorLemmas.{first_cursor, IsCursor-read}
+use Rattle.std.proofs.Common.{sym}
+use Rattle.un_frame.proofs.NtbCursorLemmas.{first_cursor}
 use Rattle.un_ntb.specs.Formats.{format_of}
 use Rattle.un_ntb.proofs.FormatLemmas.{class_reads, format_known}
 use Rattle.un_ntb.proofs.parts.read.Goals as goal

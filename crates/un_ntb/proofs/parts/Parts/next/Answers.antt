@@ -1,4 +1,4 @@
-use Rattle.std.proofs.Common.{◌≡◌, ◌+◌, ◌-◌, sym, ap, ◌∙◌, map, arith}
+use Rattle.std.proofs.Common.{◌-◌, sym, ap, ◌∙◌, map, arith}
 use Rattle.un_frame.specs.Bytes.{slice_at}
 use Rattle.un_frame.proofs.NtbCursorLemmas.{IsCursor_next, left_next}
 use Rattle.un_ntb.specs.Formats.{format_of}

@@ -1,4 +1,4 @@
-use Rattle.std.proofs.Common.{◌≡◌, ◌+◌, ◌-◌, ◌≤◌, ◌++◌, ◌∷◌, [], List, ℕ, length, map, ap, ◌∙◌, arith, refl, sym}
+use Rattle.std.proofs.Common.{◌≡◌, ◌+◌, ◌++◌, ◌∷◌, [], List, ℕ, length, map, ap, ◌∙◌, arith, refl}
 use Rattle.un_ntb.specs.Formats.{format_of}
 use Rattle.un_ntb.proofs.FormatLemmas.{format_small, format_writable}
 use Rattle.un_ntb.proofs.WriterLemmas.{numbers, reaches, more, appended, open_more, sizes-append}
@@ -48,4 +48,4 @@ returns-clause-left g c =
     let grown = appended f (format_writable g.row.WIDTH) (format_small g.row.WIDTH) g.row.WIDTH c.self.inside c.self.invariant c.args.request.now.bytes frames c.args.frame.now here in
     let bytes = ap (λ (r : Buffer). r.bytes) (rw c.place-at.ensures.place at c.push_datagram.ensures) ∙ grown in
     let sizes : map size_of c.push_reserved.new.self.items ≡ sizes_in c.self.inside ++ length c.args.frame.now ∷ [] = ap (map size_of) c.push_reserved.ensures.items ∙ sizes-append c.self.inside.datagrams.items _ in
-    rw (← c.self.view_is, sizes) (open_more f (layout_in c.self.inside) (sizes_in c.self.inside) c.push_datagram.new.request.bytes frames c.args.frame.now here.lengths bytes)
+    rw sizes (open_more f (layout_in c.self.inside) (sizes_in c.self.inside) c.push_datagram.new.request.bytes frames c.args.frame.now here.lengths bytes)

@@ -1,4 +1,4 @@
-use Rattle.std.proofs.Common.{◌≡◌, List, ℕ, sym, ap, ◌∙◌}
+use Rattle.std.proofs.Common.{List, ℕ, ap, ◌∙◌}
 use Rattle.un_ntb.specs.Formats.{format_of}
 use Rattle.un_ntb.proofs.FormatLemmas.{format_small, format_writable}
 use Rattle.un_ntb.proofs.WriterLemmas.{reaches, closed, empty_writer}

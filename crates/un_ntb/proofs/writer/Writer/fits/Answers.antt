@@ -1,4 +1,4 @@
-use Rattle.std.proofs.Common.{◌≡◌, ◌+◌, ◌≤◌, ◌<◌, false, length, sym, ◌∙◌, arith, leb}
+use Rattle.std.proofs.Common.{◌≡◌, false, length, sym, ◌∙◌, arith, leb}
 use Rattle.std.proofs.lemmas.Bool.Decides.{nat_tests}
 use Rattle.std.proofs.lemmas.Grind.{common_steps}
 use Rattle.un_ntb.specs.Formats.{format_of}

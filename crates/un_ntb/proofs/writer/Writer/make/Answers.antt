@@ -1,4 +1,4 @@
-use Rattle.std.proofs.Common.{◌≡◌, ◌≤◌, refl, arith}
+use Rattle.std.proofs.Common.{arith}
 use Rattle.un_ntb.specs.Formats.{format_of}
 use Rattle.un_ntb.proofs.FormatLemmas.{format_small, most_block-class}
 use Rattle.un_ntb.proofs.WriterLemmas.{empty_writer}

@@ -1,4 +1,3 @@
-use Rattle.std.proofs.Common.{◌≡◌, refl}
 use Rattle.un_ntb.specs.Formats.{format_of}
 use Rattle.un_ntb.proofs.FormatLemmas.{format_small}
 use Rattle.un_ntb.proofs.WriterLemmas.{empty_writer}

@@ -1,0 +1,87 @@
+//! The planned faults.
+
+ghost use Rattle.std.specs.Prelude.{◌≡◌, ◌∷◌, ◌++◌, [], None, Some, length, OnOk, OnErr};
+ghost use Rattle.std.specs.Ordering.{nat_cmp};
+ghost use Rattle.std.specs.BTreeMap.{IsUnchanged, Updates};
+ghost use Rattle.un_journal.specs.Script.{planned_in};
+
+use std::alloc::{AllocError, Global};
+use std::collections::BTreeMap;
+use std::marker::Model;
+use un_frame::{FaultKind, Lane};
+use un_journal::Planned;
+
+/// The planned faults in the order in which they came, found by lane and serial.
+#[derive(Drop)]
+pub struct Plan {
+    faults: Vec<Planned>,
+    outward: BTreeMap<u64, FaultKind>,
+    inward: BTreeMap<u64, FaultKind>,
+}
+
+impl Model for Plan {
+    ghost use Rattle.std.specs.Prelude.{List};
+    ghost use Rattle.un_frame.specs.declared.params.Lane.TheVariants.{Outward, Inward};
+    ghost use Rattle.un_journal.specs.declared.controls.Planned.{Planned};
+    ghost use Rattle.un_script.specs.Plan.{Finds};
+
+    ghost Value = { List Planned };
+
+    ghost view = { λ p. p.faults.items };
+
+    ghost invariant = { λ p. Finds Outward p.faults.items p.outward × Finds Inward p.faults.items p.inward };
+}
+
+impl Plan {
+    /// No fault is planned.
+    pub fn make(alloc: Global) -> Plan
+        ensures { result ≡ [] }
+    {
+        Plan {
+            faults: Vec::new(alloc),
+            outward: BTreeMap::new(alloc),
+            inward: BTreeMap::new(alloc),
+        }
+    }
+
+    /// What is planned for a transfer.
+    pub fn find(&self, lane: Lane, serial: u64) -> Option<FaultKind>
+        ensures { result ≡ planned_in self.now lane serial }
+    {
+        match lane {
+            Lane::Outward => self.outward.get(&serial).copied(),
+            Lane::Inward => self.inward.get(&serial).copied(),
+        }
+    }
+
+    /// Plans a fault for a transfer that has none. After the error, which is want of memory, the plan is unchanged.
+    pub fn add(&mut self, fault: Planned) -> Result<(), AllocError>
+        requires { planned_in self.old fault.lane fault.serial ≡ None }
+        ensures ok { OnOk result (self.new ≡ self.old ++ fault ∷ []) }
+        ensures err { OnErr result (self.new ≡ self.old) }
+    {
+        match fault.lane {
+            Lane::Outward => insert(&mut self.faults, &mut self.outward, fault),
+            Lane::Inward => insert(&mut self.faults, &mut self.inward, fault),
+        }
+    }
+}
+
+/// Adds a fault to the list and to its lane's map, or to neither.
+fn insert(
+    faults: &mut Vec<Planned>,
+    map: &mut BTreeMap<u64, FaultKind>,
+    fault: Planned,
+) -> Result<(), AllocError>
+    ensures list { OnOk result (faults.new.items ≡ faults.old.items ++ fault ∷ []) }
+    ensures map { OnOk result (Updates nat_cmp map.old map.new fault.serial (Some fault.kind)) }
+    ensures list_stays { OnErr result (faults.new.items ≡ faults.old.items) }
+    ensures map_stays { OnErr result (IsUnchanged map.old map.new) }
+{
+    faults.push(fault)?;
+    if map.insert(fault.serial, fault.kind).is_err() {
+        let _ = faults.pop();
+        return Err(AllocError);
+    }
+    Ok(())
+}

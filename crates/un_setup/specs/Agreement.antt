@@ -1,0 +1,81 @@
+-- What a set-up agrees on, and why there is no agreement.
+use Rattle.std.specs.Prelude.{◌≡◌, ◌+◌, Bool, ◌&&◌, [], ◌∷◌, nat_lt, nat_le, if◌then◌else◌, Result, Ok, Err}
+use Rattle.un_frame.specs.Ntb.{Format, ntb16, ntb32}
+use Rattle.un_frame.specs.NtbForm.{closed_size, datagram_place}
+use Rattle.un_frame.specs.Params.{Agree, is_one_of, layout_of}
+use Rattle.un_frame.specs.declared.params.Params.{Params}
+use Rattle.un_frame.specs.declared.params.Class.{Class}
+use Rattle.un_frame.specs.declared.params.Class.TheVariants.{Ecm, Eem, Ncm16, Ncm32}
+use Rattle.un_desc.specs.Configuration.{function}
+use Rattle.un_setup.specs.declared.agreement.Agreed.{Agreed}
+use Rattle.un_setup.specs.declared.agreement.SetupFault.{SetupFault}
+use Rattle.un_setup.specs.declared.agreement.SetupFault.TheVariants.{BadDivisor, BadAlignment, NoFit, NoMemory}
+use Rattle.un_setup.specs.Exchanges.{exchanges_of, notes_as}
+
+infixl 10 ◌>>=◌
+abbrev pub ◌>>=◌ : {A B : Type 0} → Result A SetupFault → (A → Result B SetupFault) → Result B SetupFault
+(Ok x) >>= f = f x
+(Err e) >>= f = Err e
+
+abbrev pub needs : SetupFault → Bool → Result (Unit {0}) SetupFault
+needs fault holds = if holds then Ok tt else Err fault
+
+-- the three tests of a block format's parameters, in their order (this project's own)
+abbrev pub has_divisor : Params → Bool
+has_divisor p = is_one_of p.divisor (1 ∷ 2 ∷ 4 ∷ 8 ∷ 16 ∷ 32 ∷ 64 ∷ []) && nat_lt p.remainder p.divisor
+
+abbrev pub has_alignment : Params → Bool
+has_alignment p = is_one_of p.alignment (4 ∷ 8 ∷ 16 ∷ 32 ∷ 64 ∷ [])
+
+-- a block with one frame of the largest size is within the largest block
+abbrev pub holds_one : Format → Params → Bool
+holds_one f p = nat_le (closed_size f p.alignment (datagram_place (layout_of p) f.header + p.segment) 1) p.block
+
+unfoldable pub blocks_tested : Format → Params → Result (Unit {0}) SetupFault
+blocks_tested f p = do
+  divisor ← needs (BadDivisor p.divisor p.remainder) (has_divisor p)
+  alignment ← needs (BadAlignment p.alignment) (has_alignment p)
+  needs (NoFit p.segment p.block) (holds_one f p)
+
+-- ECM and EEM have no blocks, and always agree
+abbrev pub tested_as : Class → Params → Result (Unit {0}) SetupFault
+tested_as Ecm p = Ok tt
+tested_as Eem p = Ok tt
+tested_as Ncm16 p = blocks_tested ntb16 p
+tested_as Ncm32 p = blocks_tested ntb32 p
+
+-- what is agreed on
+abbrev pub agreement : Params → Agreed
+agreement p = record {
+  params = p;
+  function = function p;
+  exchanges = exchanges_of p;
+  notes = notes_as p.class;
+}
+
+unfoldable pub agreed_of : Params → Result Agreed SetupFault
+agreed_of p = do
+  tested ← tested_as p.class p
+  Ok (agreement p)
+
+-- a call answers that; it wants memory only where there is an agreement
+abbrev pub IsAgreed : Result Agreed SetupFault → Type 0
+IsAgreed (Ok a) = Unit {0}
+IsAgreed (Err e) = ⊥
+
+abbrev pub Fails : SetupFault → Result Agreed SetupFault → Type 0
+Fails NoMemory answer = IsAgreed answer
+Fails fault answer = answer ≡ Err fault
+
+abbrev pub Gives : Result Agreed SetupFault → Result Agreed SetupFault → Type 0
+Gives (Ok a) answer = answer ≡ Ok a
+Gives (Err e) answer = Fails e answer
+
+-- the parameters of an agreement agree, those of a refusal don't
+abbrev pub Refuses : SetupFault → Params → Type 0
+Refuses NoMemory p = Agree p
+Refuses fault p = ¬ (Agree p)
+
+abbrev pub Decides : Result Agreed SetupFault → Params → Type 0
+Decides (Ok a) p = Agree p
+Decides (Err e) p = Refuses e p

@@ -1,0 +1,135 @@
+//! The set-up of ECM, NCM and EEM byte for byte, and the worked refusals.
+
+use crate::{Agreed, SetupFault, agree};
+use std::test::Fail;
+use un_frame::{Class, Params};
+
+const PARAMS: Params = Params {
+    class: Class::Ncm16,
+    segment: 1514,
+    packet: 512,
+    filter: 0x0e,
+    block: 16384,
+    datagrams: 32,
+    divisor: 4,
+    remainder: 0,
+    alignment: 4,
+    tx_out: 4,
+    rx_out: 4,
+    tx_in: 4,
+    rx_in: 4,
+};
+
+/// The set-up packets of NCM, in NTB16.
+const NCM: [[u8; 8]; 8] = [
+    [0x80, 0x06, 0x00, 0x02, 0x00, 0x00, 0xff, 0x00],
+    [0x00, 0x09, 0x01, 0x00, 0x00, 0x00, 0x00, 0x00],
+    [0xa1, 0x80, 0x00, 0x00, 0x00, 0x00, 0x1c, 0x00],
+    [0x21, 0x84, 0x00, 0x00, 0x00, 0x00, 0x00, 0x00],
+    [0x21, 0x86, 0x00, 0x00, 0x00, 0x00, 0x04, 0x00],
+    [0x21, 0x88, 0x00, 0x00, 0x00, 0x00, 0x02, 0x00],
+    [0x21, 0x43, 0x0e, 0x00, 0x00, 0x00, 0x00, 0x00],
+    [0x01, 0x0b, 0x01, 0x00, 0x01, 0x00, 0x00, 0x00],
+];
+
+/// The NTB parameters of these.
+const PARAMETERS: [u8; 28] = [
+    0x1c, 0x00, 0x01, 0x00, 0x00, 0x40, 0x00, 0x00, 0x04, 0x00, 0x00, 0x00, 0x04, 0x00, 0x00, 0x00,
+    0x00, 0x40, 0x00, 0x00, 0x04, 0x00, 0x00, 0x00, 0x04, 0x00, 0x20, 0x00,
+];
+
+const SPEED: [u8; 16] = [
+    0xa1, 0x2a, 0x00, 0x00, 0x00, 0x00, 0x08, 0x00, 0x00, 0x38, 0x9c, 0x1c, 0x00, 0x38, 0x9c, 0x1c,
+];
+
+const CONNECTED: [u8; 8] = [0xa1, 0x00, 0x01, 0x00, 0x00, 0x00, 0x00, 0x00];
+
+#[test]
+fn sets_ncm_up(rt: HostRuntime) -> Result<(), Fail> {
+    let agreed = agree(rt.alloc(), &PARAMS).ok().ok_or("refused")?;
+    let exchanges = agreed.exchanges.as_slice();
+    assert_eq!(rt; exchanges.len(), 8);
+    for (exchange, wanted) in exchanges.iter().zip(NCM.iter()) {
+        assert_eq!(rt; exchange.setup.to_bytes(), *wanted);
+    }
+    assert_eq!(rt; exchanges[0].payload.as_slice().len(), 86);
+    assert_eq!(rt; exchanges[2].payload.as_slice(), PARAMETERS.as_slice());
+    assert_eq!(rt; exchanges[4].payload.as_slice(), [0, 0x40, 0, 0].as_slice());
+    assert_eq!(rt; exchanges[5].payload.as_slice(), [0xea, 0x05].as_slice());
+    let notes = agreed.notes.as_slice();
+    assert_eq!(rt; notes.len(), 2);
+    assert_eq!(rt; notes[0].as_slice(), SPEED.as_slice());
+    assert_eq!(rt; notes[1].as_slice(), CONNECTED.as_slice());
+    Ok(())
+}
+
+#[test]
+fn sets_ecm_and_eem_up(rt: HostRuntime) -> Result<(), Fail> {
+    let ecm = Params {
+        class: Class::Ecm,
+        ..PARAMS
+    };
+    let agreed = agree(rt.alloc(), &ecm).ok().ok_or("refused")?;
+    let exchanges = agreed.exchanges.as_slice();
+    assert_eq!(rt; exchanges.len(), 4);
+    let steps = [NCM[0], NCM[1], NCM[6], NCM[7]];
+    for (exchange, wanted) in exchanges.iter().zip(steps.iter()) {
+        assert_eq!(rt; exchange.setup.to_bytes(), *wanted);
+    }
+    assert_eq!(rt; exchanges[0].payload.as_slice().len(), 80);
+    assert_eq!(rt; exchanges[2].payload.as_slice().len(), 0);
+    assert_eq!(rt; agreed.notes.as_slice().len(), 2);
+    let eem = Params {
+        class: Class::Eem,
+        ..PARAMS
+    };
+    let agreed = agree(rt.alloc(), &eem).ok().ok_or("refused")?;
+    assert_eq!(rt;
+        (
+            agreed.exchanges.as_slice().len(),
+            agreed.notes.as_slice().len()
+        ),
+        (2, 0)
+    );
+    Ok(())
+}
+
+/// Why there is no agreement.
+fn fault(agreed: Result<Agreed, SetupFault>) -> Option<SetupFault> {
+    agreed.err()
+}
+
+#[test]
+fn refuses_what_does_not_agree(rt: HostRuntime) {
+    let large = Params {
+        segment: 8192,
+        block: 2048,
+        ..PARAMS
+    };
+    assert_eq!(rt;
+        fault(agree(rt.alloc(), &large)),
+        Some(SetupFault::NoFit {
+            segment: 8192,
+            block: 2048
+        })
+    );
+    let three = Params {
+        divisor: 3,
+        ..PARAMS
+    };
+    assert_eq!(rt;
+        fault(agree(rt.alloc(), &three)),
+        Some(SetupFault::BadDivisor {
+            divisor: 3,
+            remainder: 0
+        })
+    );
+    let six = Params {
+        alignment: 6,
+        ..PARAMS
+    };
+    assert_eq!(rt;
+        fault(agree(rt.alloc(), &six)),
+        Some(SetupFault::BadAlignment { alignment: 6 })
+    );
+}

@@ -1,0 +1,6 @@
+pub mod Held
+pub mod Codings
+pub mod Places
+pub mod Cursors
+pub mod Left
+pub mod Laws

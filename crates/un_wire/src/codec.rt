@@ -1,0 +1,164 @@
+//! A codec of any class.
+
+ghost use Rattle.std.specs.Prelude.{◌≡◌, ◌+◌, ◌<◌, ◌↔◌, IfNone, IfOk, IfSome, IsTrue};
+ghost use Rattle.un_frame.specs.Fault.{fault_in};
+ghost use Rattle.un_frame.specs.Params.{Agree, AreInRange};
+ghost use Rattle.un_frame.specs.Parts.{datagram_of};
+ghost use Rattle.un_frame.specs.Wire.{fault_of};
+
+use crate::cursor::{Cursor, begin};
+use crate::ecm::EcmWire;
+use crate::eem::EemWire;
+use crate::ntb16::Ntb16Wire;
+use crate::ntb32::Ntb32Wire;
+use crate::parts::Parts;
+use crate::wire::Wire;
+use std::alloc::{AllocError, Global};
+use un_frame::{Class, Fault, Params};
+use un_req::Request;
+
+/// A codec of any class.
+#[derive(Drop)]
+pub enum Codec {
+    Ecm(EcmWire),
+    Eem(EemWire),
+    Ncm16(Ntb16Wire),
+    Ncm32(Ntb32Wire),
+}
+
+impl Codec {
+    ghost use Rattle.un_wire.specs.Codings.{coding_of, fresh};
+    ghost use Rattle.un_wire.specs.Cursors.{IsAt, part_count, part_index};
+
+    /// A codec of the parameters' class, with no open transfer. It takes the memory for where the frames of a block stand, and no
+    /// later call takes any; an error is want of memory.
+    pub fn make(alloc: Global, params: &Params) -> Result<Codec, AllocError>
+        requires in_range { AreInRange params.now }
+        requires agree { Agree params.now }
+        ensures { IfOk result (λ codec. coding_of codec ≡ fresh params.now) }
+    {
+        match params.class {
+            Class::Ecm => Ok(Codec::Ecm(EcmWire::make(params))),
+            Class::Eem => Ok(Codec::Eem(EemWire::make(params))),
+            Class::Ncm16 => Ok(Codec::Ncm16(Ntb16Wire::make(alloc, params)?)),
+            Class::Ncm32 => Ok(Codec::Ncm32(Ntb32Wire::make(alloc, params)?)),
+        }
+    }
+
+    /// The class of its transfers.
+    fn class(&self) -> Class
+        ensures { result ≡ (coding_of self.now).params.class }
+    {
+        match self {
+            Codec::Ecm(codec) => codec.class(),
+            Codec::Eem(codec) => codec.class(),
+            Codec::Ncm16(codec) => codec.class(),
+            Codec::Ncm32(codec) => codec.class(),
+        }
+    }
+
+    /// The cursor at the first part of a transfer, exactly where the grammar of the class reads it; else the fault that `read`
+    /// answers. The whole transfer is checked. The cursor is at the end at once where the transfer has no part.
+    pub fn cursor(&self, bytes: &[u8]) -> Result<Cursor, Fault>
+        ensures at { IfOk result (λ cursor. IsAt (coding_of self.now).params.class bytes.now cursor) }
+        ensures first { IfOk result (λ cursor. part_index (coding_of self.now).params.class bytes.now cursor ≡ 0) }
+        ensures fault { fault_in result ≡ fault_of (coding_of self.now).params.class bytes.now }
+    {
+        begin(self.class(), bytes)
+    }
+
+    /// Lends the part at a cursor, which came from these bytes and this codec; `None` exactly where no part is left.
+    pub fn part_at<'a>(&self, bytes: &'a [u8], cursor: &Cursor) -> Option<&'a [u8]>
+        requires { IsAt (coding_of self.now).params.class bytes.now cursor.now }
+        ensures part { IfSome result (λ part. part.now ≡ datagram_of (coding_of self.now).params.class bytes.now (part_index (coding_of self.now).params.class bytes.now cursor.now)) }
+        ensures some { IfSome result (λ part. part_index (coding_of self.now).params.class bytes.now cursor.now < part_count (coding_of self.now).params.class bytes.now) }
+        ensures none { IfNone result (part_index (coding_of self.now).params.class bytes.now cursor.now ≡ part_count (coding_of self.now).params.class bytes.now) }
+    {
+        cursor.part(bytes)
+    }
+
+    /// Moves a cursor, which came from these bytes and this codec, on from the part at it, and answers true exactly where none is
+    /// left then.
+    pub fn advance(&self, bytes: &[u8], cursor: &mut Cursor) -> bool
+        requires at { IsAt (coding_of self.now).params.class bytes.now cursor.old }
+        requires some { part_index (coding_of self.now).params.class bytes.now cursor.old < part_count (coding_of self.now).params.class bytes.now }
+        ensures at { IsAt (coding_of self.now).params.class bytes.now cursor.new }
+        ensures one { part_index (coding_of self.now).params.class bytes.now cursor.new ≡ part_index (coding_of self.now).params.class bytes.now cursor.old + 1 }
+        ensures last { IsTrue result ↔ (part_index (coding_of self.now).params.class bytes.now cursor.new ≡ part_count (coding_of self.now).params.class bytes.now) }
+    {
+        *cursor = cursor.next(bytes);
+        match cursor.part(bytes) {
+            Some(_) => false,
+            None => true,
+        }
+    }
+}
+
+impl Wire for Codec {
+    ghost use Rattle.un_wire.specs.Codings.{coding_of};
+
+    ghost coding = { coding_of };
+
+    fn capacity(&self) -> u32 {
+        match self {
+            Codec::Ecm(codec) => codec.capacity(),
+            Codec::Eem(codec) => codec.capacity(),
+            Codec::Ncm16(codec) => codec.capacity(),
+            Codec::Ncm32(codec) => codec.capacity(),
+        }
+    }
+
+    fn count(&self) -> u32 {
+        match self {
+            Codec::Ecm(codec) => codec.count(),
+            Codec::Eem(codec) => codec.count(),
+            Codec::Ncm16(codec) => codec.count(),
+            Codec::Ncm32(codec) => codec.count(),
+        }
+    }
+
+    fn fits(&self, length: u32) -> bool {
+        match self {
+            Codec::Ecm(codec) => codec.fits(length),
+            Codec::Eem(codec) => codec.fits(length),
+            Codec::Ncm16(codec) => codec.fits(length),
+            Codec::Ncm32(codec) => codec.fits(length),
+        }
+    }
+
+    fn start(&mut self, request: &mut Request) {
+        match self {
+            Codec::Ecm(codec) => codec.start(request),
+            Codec::Eem(codec) => codec.start(request),
+            Codec::Ncm16(codec) => codec.start(request),
+            Codec::Ncm32(codec) => codec.start(request),
+        }
+    }
+
+    fn append(&mut self, request: &mut Request, frame: &[u8]) {
+        match self {
+            Codec::Ecm(codec) => codec.append(request, frame),
+            Codec::Eem(codec) => codec.append(request, frame),
+            Codec::Ncm16(codec) => codec.append(request, frame),
+            Codec::Ncm32(codec) => codec.append(request, frame),
+        }
+    }
+
+    fn close(&mut self, request: &mut Request, serial: u64) {
+        match self {
+            Codec::Ecm(codec) => codec.close(request, serial),
+            Codec::Eem(codec) => codec.close(request, serial),
+            Codec::Ncm16(codec) => codec.close(request, serial),
+            Codec::Ncm32(codec) => codec.close(request, serial),
+        }
+    }
+
+    fn read<'a>(&self, bytes: &'a [u8]) -> Result<Parts<'a>, Fault> {
+        match self {
+            Codec::Ecm(codec) => codec.read(bytes),
+            Codec::Eem(codec) => codec.read(bytes),
+            Codec::Ncm16(codec) => codec.read(bytes),
+            Codec::Ncm32(codec) => codec.read(bytes),
+        }
+    }
+}
