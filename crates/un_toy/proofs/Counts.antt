@@ -1,5 +1,5 @@
 -- The lines of a kind after one line more.
-use Rattle.std.proofs.Common.{◌≡◌, ℕ, ◌+◌, ◌<◌, Bool, true, false, nat_lt, List, [], ◌∷◌, ◌++◌, if◌then◌else◌, refl, ap, ◌∙◌, arith}
+use Rattle.std.proofs.Common.{◌≡◌, ℕ, ◌+◌, ◌<◌, Bool, true, false, nat_lt, [], ◌∷◌, ◌++◌, if◌then◌else◌, refl, ap, ◌∙◌, arith}
 use borrow.Author.Tests.{ltb-true}
 use Rattle.un_journal.specs.declared.machine.Flight.{Flight}
 use Rattle.un_journal.specs.Flights.{times}
