@@ -112,20 +112,53 @@ fn short_and_long_frames_are_refused(rt: HostRuntime) -> Result<(), Fail> {
     Ok(())
 }
 
+/// Whether the command, asked in this way, ends with this status and this line alone.
+fn tells(
+    alloc: Global,
+    word: Option<&str>,
+    input: Vec<u8>,
+    reads: &[u64],
+    writes: &[u64],
+    ends: u8,
+    line: &[u8],
+) -> Result<bool, AllocError> {
+    let (status, sink) = answer(alloc, word, input, reads, writes)?;
+    Ok(status == ends && sink.held() == line)
+}
+
+#[test]
+fn too_much_input_is_told(rt: HostRuntime) -> Result<(), Fail> {
+    let long = zeros(rt.alloc(), 16_777_217)?;
+    assert!(rt;
+        tells(
+            rt.alloc(),
+            Some("serial"),
+            long,
+            &[],
+            &[],
+            7,
+            b"too large\n"
+        )?
+    );
+    Ok(())
+}
+
 #[test]
 fn faults_and_bad_words_are_told(rt: HostRuntime) -> Result<(), Fail> {
-    let long = zeros(rt.alloc(), 16_777_217)?;
-    let (status, sink) = answer(rt.alloc(), Some("serial"), long, &[], &[])?;
-    assert_eq!(rt; (status, sink.held()), (7, b"too large\n".as_slice()));
-    let input = small(rt.alloc())?;
-    let (status, sink) = answer(rt.alloc(), None, input, &[], &[])?;
-    assert_eq!(rt; (status, sink.held()), (4, b"bad words\n".as_slice()));
-    let input = small(rt.alloc())?;
-    let (status, sink) = answer(rt.alloc(), Some("serial"), input, &[0], &[])?;
-    assert_eq!(rt; (status, sink.held()), (2, b"read fault\n".as_slice()));
-    let input = small(rt.alloc())?;
-    let (status, sink) = answer(rt.alloc(), Some("serial"), input, &[], &[0])?;
-    assert_eq!(rt; (status, sink.held()), (3, b"".as_slice()));
+    let alloc = rt.alloc();
+    assert!(rt; tells(alloc, None, small(alloc)?, &[], &[], 4, b"bad words\n")?);
+    assert!(rt;
+        tells(
+            alloc,
+            Some("serial"),
+            small(alloc)?,
+            &[0],
+            &[],
+            2,
+            b"read fault\n"
+        )?
+    );
+    assert!(rt; tells(alloc, Some("serial"), small(alloc)?, &[], &[0], 3, b"")?);
     Ok(())
 }
 
