@@ -1,4 +1,4 @@
-//! Each call of an endpoint, on one transfer that lands and one that is cut.
+//! One transfer from the queue to the copy of its flight: a full queue, no buffer, and the flight taken.
 
 use crate::{Endpoint, Landed, Taken};
 use std::test::Fail;
