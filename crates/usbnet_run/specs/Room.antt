@@ -1,9 +1,9 @@
 -- The room in the journal that the rest of a run has.
 use Rattle.std.specs.Prelude.{ℕ, ◌+◌, ◌≤◌}
 use Rattle.un_journal.specs.Log.{Log}
-use Rattle.un_lane.specs.Way.{Way}
-use Rattle.un_lane.specs.Steps.{IsCounted}
-use Rattle.un_lane.specs.Work.{work, load}
+use Rattle.un_plain.specs.Way.{Way}
+use Rattle.un_plain.specs.Steps.{IsCounted}
+use Rattle.un_plain.specs.Work.{work, load}
 
 -- room for what one path has yet to write, and for so many more lines and bytes
 pub record HasSpare (way : Way) (log : Log) (lines bytes : ℕ) : Type 0 where

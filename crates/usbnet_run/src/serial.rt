@@ -4,15 +4,15 @@ ghost use Rattle.std.specs.Prelude.{◌≡◌, ◌≢◌, ◌+◌, ◌*◌, ◌<
 ghost use Rattle.un_frame.specs.Params.{AreInRange};
 ghost use Rattle.un_frame.specs.Verdict.{verdict_of};
 ghost use Rattle.un_frame.specs.declared.kinds.Verdict.TheVariants.{Take};
-ghost use Rattle.un_lane.specs.Steps.{IsCounted};
-ghost use Rattle.un_lane.specs.Work.{Spends, load, work};
+ghost use Rattle.un_plain.specs.Steps.{IsCounted};
+ghost use Rattle.un_plain.specs.Work.{Spends, load, work};
 ghost use Rattle.usbnet_run.specs.Room.{HasSpare};
 
 use std::alloc::{AllocError, Global};
 use std::marker::Model;
 use un_frame::{Lane, Verdict};
 use un_journal::{Answer, Journal, Line};
-use un_lane::Path;
+use un_plain::Path;
 use un_script::Script;
 
 /// How many senders a lane has.

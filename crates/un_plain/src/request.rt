@@ -1,7 +1,7 @@
 //! Requests: one that is free for a transfer, and one that holds one. No call but `make` takes memory.
 
 ghost use Rattle.std.specs.Prelude.{◌≡◌, ◌<◌, ◌≤◌, length};
-ghost use Rattle.un_lane.specs.Steps.{transfer_of};
+ghost use Rattle.un_plain.specs.Steps.{transfer_of};
 
 use std::alloc::{AllocError, Global};
 use std::marker::Model;
@@ -59,7 +59,7 @@ pub struct Held {
 
 impl Model for Held {
     ghost use Rattle.std.specs.Prelude.{◌<◌, ◌≤◌, length, vec_capacity};
-    ghost use Rattle.un_lane.specs.Way.{Transfer};
+    ghost use Rattle.un_plain.specs.Way.{Transfer};
 
     ghost Value = { Transfer };
 

@@ -1,6 +1,6 @@
 //! How much a path has yet to write.
 
-ghost use Rattle.un_lane.specs.Work.{EachCallUsesUp, OffersBring};
+ghost use Rattle.un_plain.specs.Work.{EachCallUsesUp, OffersBring};
 
 /// Each call but `offer` uses up just as many of the path's lines and bytes to come as it writes.
 pub fn calls_use_up()

@@ -4,9 +4,9 @@ ghost use Rattle.std.specs.Prelude.{◌≡◌, ◌≤◌, IfOk, vec_len, vec_cap
 ghost use Rattle.un_frame.specs.Params.{AreInRange};
 ghost use Rattle.un_frame.specs.Verdict.{verdict_of};
 ghost use Rattle.un_frame.specs.declared.kinds.Verdict.TheVariants.{Take};
-ghost use Rattle.un_lane.specs.Way.{fresh, EachIsPlaced};
-ghost use Rattle.un_lane.specs.Work.{Spends, Adds};
-ghost use Rattle.un_lane.specs.Steps.{offer_of, fly_of, tx_done_of, rx_done_of, deliver_of, refill_of, HasRoom, Gains, IsCounted};
+ghost use Rattle.un_plain.specs.Way.{fresh, EachIsPlaced};
+ghost use Rattle.un_plain.specs.Work.{Spends, Adds};
+ghost use Rattle.un_plain.specs.Steps.{offer_of, fly_of, tx_done_of, rx_done_of, deliver_of, refill_of, HasRoom, Gains, IsCounted};
 
 use crate::request::{Free, Held};
 use std::alloc::{AllocError, Global};
@@ -38,7 +38,7 @@ pub struct Path {
 impl Model for Path {
     ghost use Rattle.std.specs.Prelude.{◌≡◌, ◌+◌, ◌≤◌, vec_len, vec_capacity};
     ghost use Rattle.std.specs.VecDeque.{deque_len, deque_capacity};
-    ghost use Rattle.un_lane.specs.Way.{Way, one_if_some};
+    ghost use Rattle.un_plain.specs.Way.{Way, one_if_some};
 
     ghost Value = { Way };
 

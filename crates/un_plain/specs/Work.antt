@@ -1,8 +1,8 @@
 -- What a path has yet to write: an upper bound on the lines and bytes of all calls but those of offer.
 use Rattle.std.specs.Prelude.{◌≡◌, ℕ, ◌+◌, ◌*◌, ◌≤◌, List, length, sum_by, Option, Some, None}
 use Rattle.un_journal.specs.Log.{Log}
-use Rattle.un_lane.specs.Way.{Transfer, Way, one_if_some}
-use Rattle.un_lane.specs.Steps.{Outcome, offer_of, fly_of, tx_done_of, rx_done_of, deliver_of, refill_of, size_of}
+use Rattle.un_plain.specs.Way.{Transfer, Way, one_if_some}
+use Rattle.un_plain.specs.Steps.{Outcome, offer_of, fly_of, tx_done_of, rx_done_of, deliver_of, refill_of, size_of}
 
 -- Lines: of a queued transfer six (flying, landed, txhome, opened, gave, posted), of one that is done one, of one that has
 -- arrived three, of the current one two, and of a receive request at home one.

@@ -4,9 +4,9 @@ use Rattle.un_journal.specs.Log.{Log}
 use Rattle.un_journal.specs.declared.actions.Answer.TheVariants.{NoBuffer, Nothing, Busy}
 use Rattle.un_journal.specs.declared.lines.Line.TheVariants.{Flying, Landed, Posted, Took, Made}
 use Rattle.un_journal.specs.History.{History}
-use Rattle.un_lane.specs.Way.{Transfer, Way, one_if_some}
-use Rattle.un_lane.specs.Steps.{HasRoom, size_of, refused, done_as, transfer_of, offer_of, fly_first, fly_of, tx_done_first, tx_done_of, rx_done_first, rx_done_of, deliver_current, deliver_of, refill_of}
-use Rattle.un_lane.specs.Work.{work, load, size_if_some}
+use Rattle.un_plain.specs.Way.{Transfer, Way, one_if_some}
+use Rattle.un_plain.specs.Steps.{HasRoom, size_of, refused, done_as, transfer_of, offer_of, fly_first, fly_of, tx_done_first, tx_done_of, rx_done_first, rx_done_of, deliver_current, deliver_of, refill_of}
+use Rattle.un_plain.specs.Work.{work, load, size_if_some}
 
 no_lines : (log : Log) → HasRoom log []
 no_lines log = record { lines = omega arith; bytes = omega arith }

@@ -1,4 +1,4 @@
-//! One lane of a link whose frames are each a transfer of its own.
+//! One lane of a link whose frames are each a transfer of its own: what the first run stands on, until the whole lane takes its place.
 #![tactic(auto)]
 
 mod laws;

@@ -6,7 +6,7 @@ use Rattle.un_journal.specs.declared.actions.Answer.TheVariants.{Did, Busy, Noth
 use Rattle.un_journal.specs.declared.lines.Line.TheVariants.{Took, Made, Posted, Flying, Landed, TxHome, Opened, Gave}
 use Rattle.un_journal.specs.History.{Entry, History}
 use Rattle.un_journal.specs.Log.{Log}
-use Rattle.un_lane.specs.Way.{Transfer, Way}
+use Rattle.un_plain.specs.Way.{Transfer, Way}
 
 pub record Outcome : Type 0 where
   pub answer : Answer
