@@ -1,7 +1,9 @@
 pub mod Cuts
+pub mod Decoded
 pub mod Digits
 pub mod Heard
 pub mod Ranges
 pub mod Standings
+pub mod Readiness
 pub mod LawLemmas
 pub mod Plans

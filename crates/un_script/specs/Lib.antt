@@ -3,6 +3,7 @@ pub mod Numbers
 pub mod Table
 pub mod Parts
 pub mod Plan
+pub mod Ready
 pub mod Reading
 pub mod Examples
 pub mod Law

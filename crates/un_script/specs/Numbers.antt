@@ -1,8 +1,8 @@
 -- Numbers and bytes as texts.
-use Rattle.std.specs.Prelude.{ℕ, ◌+◌, ◌-◌, ◌*◌, Bool, false, ◌&&◌, ◌==◌, nat_le, not, List, [], ◌∷◌, length, Option, Some, None, if◌then◌else◌}
+use Rattle.std.specs.Prelude.{ℕ, ◌+◌, ◌-◌, ◌*◌, Bool, false, ◌&&◌, ◌==◌, nat_le, not, List, [], ◌∷◌, length, slice_index, Option, Some, None, if◌then◌else◌}
 use Rattle.std.specs.List.{list_all}
 use Rattle.std.specs.Result.{result_ok}
-use Rattle.hex.specs.Hex.{decode_of}
+use Rattle.hex.specs.Hex.{decode_of, decode_sized}
 use Rattle.un_script.specs.Words.{is_empty}
 
 abbrev pub is_digit : ℕ → Bool
@@ -30,3 +30,11 @@ number_of word = if is_number word then Some (number_from 0 word) else None
 -- the bytes that pairs of hexadecimal digits of either case are
 abbrev pub bytes_of : List ℕ → Option (List ℕ)
 bytes_of word = result_ok (decode_of word)
+
+abbrev pub first_byte : Option (List ℕ) → Option ℕ
+first_byte (Some bytes) = Some (slice_index bytes 0)
+first_byte None = None
+
+-- the byte that two hexadecimal digits of either case are
+abbrev pub byte_of : List ℕ → Option ℕ
+byte_of word = first_byte (result_ok (decode_sized word 1))

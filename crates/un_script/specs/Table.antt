@@ -1,18 +1,83 @@
--- The places, ranges and counts of a script's lines, and the parameters where no line says others.
-use Rattle.std.specs.Prelude.{ℕ, Bool, ◌&&◌, ◌||◌, ◌==◌, nat_le, nat_lt, if◌then◌else◌}
+-- The words, places, ranges and counts of a script's lines, and the parameters where no line says others.
+use Rattle.std.specs.Prelude.{ℕ, Bool, ◌&&◌, ◌||◌, ◌==◌, nat_le, nat_lt, List, [], ◌∷◌, Option, Some, None, codes, if◌then◌else◌}
+use Rattle.std.specs.Str.{bytes_eq}
 use Rattle.un_frame.specs.declared.params.Class.{Class}
+use Rattle.un_frame.specs.declared.params.Class.TheVariants.{Ecm, Eem, Ncm16, Ncm32}
+use Rattle.un_frame.specs.declared.params.Lane.{Lane}
+use Rattle.un_frame.specs.declared.params.Lane.TheVariants.{Outward, Inward}
+use Rattle.un_frame.specs.declared.kinds.FaultKind.{FaultKind}
+use Rattle.un_frame.specs.declared.kinds.FaultKind.TheVariants.{Proto, Halt}
 use Rattle.un_frame.specs.declared.params.Params.{Params}
+use Rattle.un_frame.specs.Params.{is_one_of, most_block}
+use Rattle.un_journal.specs.declared.controls.Control.{Control}
+use Rattle.un_journal.specs.declared.controls.Control.TheVariants.{Suspend, Resume, Down, Up, Unlink, Unplug}
+use Rattle.un_script.specs.declared.table.Parameter.{Parameter}
+use Rattle.un_script.specs.declared.table.Parameter.TheVariants.{Segment, Packet, Block, Datagrams, Divisor, Remainder, Alignment}
+
+abbrev pub class_named : List ℕ → Option Class
+class_named word =
+    if bytes_eq word (codes "ecm") then Some Ecm
+    else (if bytes_eq word (codes "eem") then Some Eem
+    else (if bytes_eq word (codes "ncm16") then Some Ncm16
+    else (if bytes_eq word (codes "ncm32") then Some Ncm32
+    else None)))
+
+abbrev pub lane_named : List ℕ → Option Lane
+lane_named word =
+    if bytes_eq word (codes "out") then Some Outward
+    else (if bytes_eq word (codes "in") then Some Inward
+    else None)
+
+abbrev pub kind_named : List ℕ → Option FaultKind
+kind_named word =
+    if bytes_eq word (codes "proto") then Some Proto
+    else (if bytes_eq word (codes "halt") then Some Halt
+    else None)
+
+-- the controls of one word
+abbrev pub control_named : List ℕ → Option Control
+control_named word =
+    if bytes_eq word (codes "suspend") then Some Suspend
+    else (if bytes_eq word (codes "resume") then Some Resume
+    else (if bytes_eq word (codes "down") then Some Down
+    else (if bytes_eq word (codes "up") then Some Up
+    else (if bytes_eq word (codes "unplug") then Some Unplug
+    else None))))
+
+-- the parameters of one number
+abbrev pub parameter_named : List ℕ → Option Parameter
+parameter_named word =
+    if bytes_eq word (codes "segment") then Some Segment
+    else (if bytes_eq word (codes "packet") then Some Packet
+    else (if bytes_eq word (codes "block") then Some Block
+    else (if bytes_eq word (codes "datagrams") then Some Datagrams
+    else (if bytes_eq word (codes "divisor") then Some Divisor
+    else (if bytes_eq word (codes "remainder") then Some Remainder
+    else (if bytes_eq word (codes "alignment") then Some Alignment
+    else None))))))
 
 -- THE PLACES OF THE LINES
 
 abbrev pub CLASS_PLACE : ℕ
 CLASS_PLACE = 1
 
+abbrev pub FILTER_PLACE : ℕ
+FILTER_PLACE = 4
+
 abbrev pub REQUESTS_PLACE : ℕ
 REQUESTS_PLACE = 10
 
 abbrev pub BODY_PLACE : ℕ
 BODY_PLACE = 11
+
+abbrev pub place_of : Parameter → ℕ
+place_of Segment = 2
+place_of Packet = 3
+place_of Block = 5
+place_of Datagrams = 6
+place_of Divisor = 7
+place_of Remainder = 8
+place_of Alignment = 9
 
 -- Whether a line of this place may follow one of that place, with 0 where none came yet: the class line comes first, then
 -- each parameter at most once in its turn, then the body.
@@ -23,6 +88,18 @@ may_follow last place = if last == 0 then place == CLASS_PLACE else nat_lt last 
 
 abbrev pub within : ℕ → ℕ → ℕ → Bool
 within low high n = nat_le low n && nat_le n high
+
+abbrev pub is_allowed : Class → Parameter → ℕ → Bool
+is_allowed class Segment n = within 60 8192 n
+is_allowed class Packet n = is_one_of n (8 ∷ 16 ∷ 32 ∷ 64 ∷ 128 ∷ 256 ∷ 512 ∷ 1024 ∷ [])
+is_allowed class Block n = within 2048 (most_block class) n
+is_allowed class Datagrams n = within 0 1024 n
+is_allowed class Divisor n = within 1 64 n
+is_allowed class Remainder n = within 0 63 n
+is_allowed class Alignment n = within 4 64 n
+
+abbrev pub is_filter : ℕ → Bool
+is_filter n = within 0x00 0x1f n
 
 abbrev pub is_pool_size : ℕ → Bool
 is_pool_size n = within 1 64 n
@@ -63,3 +140,12 @@ defaults class = record {
   tx_in = 8;
   rx_in = 8;
 }
+
+abbrev pub with_number : Parameter → ℕ → Params → Params
+with_number Segment n p = record p { segment = n }
+with_number Packet n p = record p { packet = n }
+with_number Block n p = record p { block = n }
+with_number Datagrams n p = record p { datagrams = n }
+with_number Divisor n p = record p { divisor = n }
+with_number Remainder n p = record p { remainder = n }
+with_number Alignment n p = record p { alignment = n }

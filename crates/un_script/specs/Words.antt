@@ -1,5 +1,6 @@
 -- Lines of a text, and words of a line.
-use Rattle.std.specs.Prelude.{ℕ, Bool, ◌==◌, List, [], ◌∷◌, length, if◌then◌else◌}
+use Rattle.std.specs.Prelude.{ℕ, Bool, true, ◌&&◌, ◌==◌, nat_le, not, List, [], ◌∷◌, length, if◌then◌else◌}
+use Rattle.std.specs.List.{list_all, list_any}
 
 abbrev pub LINE_FEED : ℕ
 LINE_FEED = 10
@@ -24,3 +25,16 @@ words_of (c ∷ cs) = if c == SPACE then [] ∷ words_of cs else onto_first c (w
 
 abbrev pub is_empty : List ℕ → Bool
 is_empty word = length word == 0
+
+-- a line that says nothing: it is empty or begins with '#'
+abbrev pub is_skipped : List ℕ → Bool
+is_skipped [] = true
+is_skipped (c ∷ cs) = c == 35
+
+-- printable ASCII or a space
+abbrev pub is_plain : ℕ → Bool
+is_plain c = nat_le 0x20 c && nat_le c 0x7e
+
+-- each byte is plain, and no word is empty
+abbrev pub is_spelled : List ℕ → Bool
+is_spelled line = list_all is_plain line && not (list_any is_empty (words_of line))

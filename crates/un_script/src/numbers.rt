@@ -1,8 +1,10 @@
-//! Numbers as texts.
+//! Numbers and bytes as texts.
 
 ghost use Rattle.std.specs.Prelude.{◌≡◌};
 ghost use Rattle.std.specs.List.{list_all};
-ghost use Rattle.un_script.specs.Numbers.{is_digit, number_of};
+ghost use Rattle.un_script.specs.Numbers.{is_digit, number_of, byte_of};
+
+use hex::FromHex;
 
 /// Whether a zero stands before another digit.
 #[tactic(auto, using(crate::proofs::Digits::short_leading, crate::proofs::Digits::long_leading))]
@@ -41,4 +43,14 @@ pub fn number(word: &[u8]) -> Option<u64>
         value = value * 10 + u64::from(digit - b'0');
     }
     Some(value)
+}
+
+/// The byte that two hexadecimal digits are.
+pub fn byte(word: &[u8]) -> Option<u8>
+    ensures { result ≡ byte_of word.now }
+{
+    match <[u8; 1] as FromHex>::from_hex(word) {
+        Ok(bytes) => Some(bytes[0]),
+        Err(_) => None,
+    }
 }

@@ -44,6 +44,13 @@ impl Plan {
         }
     }
 
+    /// How many faults are planned.
+    pub fn len(&self) -> usize
+        ensures { result ≡ length self.now }
+    {
+        self.faults.len()
+    }
+
     /// What is planned for a transfer.
     pub fn find(&self, lane: Lane, serial: u64) -> Option<FaultKind>
         ensures { result ≡ planned_in self.now lane serial }

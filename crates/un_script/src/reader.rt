@@ -1,21 +1,28 @@
 //! A script from its text.
 
-ghost use Rattle.std.specs.Prelude.{◌≡◌, ◌∷◌, [], Err};
+ghost use Rattle.std.specs.Prelude.{◌≡◌, ◌<◌, ◌∷◌, [], Err, IfOk, length};
 ghost use Rattle.un_script.specs.declared.why.Refused.TheVariants.{Because};
-ghost use Rattle.un_script.specs.declared.why.Why.TheVariants.{Form};
+ghost use Rattle.un_script.specs.declared.why.Why.TheVariants.{Hex};
 ghost use Rattle.un_script.specs.Numbers.{bytes_of};
-ghost use Rattle.un_script.specs.Reading.{Gives, ReadGives, given, now_at, class_line, requests_line, frame_line, words_read, line_read, script_of};
+ghost use Rattle.un_script.specs.Reading.{Gives, ReadGives, given, now_at, class_line, number_line, filter_line, requests_line, frame_line, control_line, fault_line, words_read, line_read, script_of};
 
-use crate::lines::{cut_line, cut_word};
-use crate::numbers::number;
+use crate::lines::{cut_line, cut_word, is_skipped, is_spelled};
+use crate::numbers::{byte, number};
 use crate::script::Script;
-use crate::table::{defaults, is, is_pool_size, may_follow};
+use crate::standing::stands_after;
+use crate::table::{
+    class_named, control_named, defaults, is, is_allowed, is_filter, is_pool_size, kind_named,
+    lane_named, may_follow, parameter_named, place_of, unlink_named, with_number,
+};
 use crate::why::{Refused, ScriptError, Why};
 use hex::FromHexError;
 use std::alloc::Global;
-use un_frame::{Bytes, Class, Lane};
+use un_frame::{Bytes, Class};
+use un_journal::{Control, Due};
 
 const CLASS: u8 = 1;
+
+const FILTER: u8 = 4;
 
 const REQUESTS: u8 = 10;
 
@@ -28,22 +35,72 @@ fn refuse(why: Why) -> Result<u8, Refused>
     Err(Refused::Because(why))
 }
 
-/// `class ecm`
+/// `class C`
 #[tactic(auto, using(crate::proofs::Ranges::defaults_in_range))]
-fn class_line(alloc: Global, script: &mut Script, place: u8, class: &[u8]) -> Result<u8, Refused>
+fn class_line(
+    alloc: Global,
+    script: &mut Script,
+    place: u8,
+    class: &[u8],
+) -> Result<u8, Refused>
     ensures { Gives (λ next. now_at next script.new) result (Rattle.un_script.specs.Reading.class_line (now_at place script.old) class.now) }
 {
-    if !is(class, b"ecm") {
-        return refuse(Why::Form);
-    }
+    let Some(class) = class_named(class) else {
+        return refuse(Why::Word);
+    };
     if !may_follow(place, CLASS) {
-        return refuse(Why::Form);
+        return refuse(Why::Order);
     }
-    *script = Script::make(alloc, defaults(Class::Ecm));
+    *script = Script::make(alloc, defaults(class));
     Ok(CLASS)
 }
 
+/// `segment N`, and the other parameters of one number
+#[tactic(auto, using(crate::proofs::Ranges::number_in_range))]
+fn number_line(script: &mut Script, place: u8, key: &[u8], n: &[u8]) -> Result<u8, Refused>
+    ensures { Gives (λ next. now_at next script.new) result (Rattle.un_script.specs.Reading.number_line (now_at place script.old) key.now n.now) }
+{
+    let Some(parameter) = parameter_named(key) else {
+        return refuse(Why::Word);
+    };
+    if !may_follow(place, place_of(parameter)) {
+        return refuse(Why::Order);
+    }
+    let Some(n) = number(n) else {
+        return refuse(Why::Number);
+    };
+    script.is_ready();
+    let params = *script.params();
+    if !is_allowed(params.class, parameter, n) {
+        return refuse(Why::Range);
+    }
+    script.set_params(with_number(parameter, n as u32, params));
+    Ok(place_of(parameter))
+}
+
+/// `filter XX`
+#[tactic(auto, using(crate::proofs::Ranges::filter_in_range))]
+fn filter_line(script: &mut Script, place: u8, x: &[u8]) -> Result<u8, Refused>
+    ensures { Gives (λ next. now_at next script.new) result (Rattle.un_script.specs.Reading.filter_line (now_at place script.old) x.now) }
+{
+    if !may_follow(place, FILTER) {
+        return refuse(Why::Order);
+    }
+    let Some(filter) = byte(x) else {
+        return refuse(Why::Hex);
+    };
+    if !is_filter(filter) {
+        return refuse(Why::Range);
+    }
+    script.is_ready();
+    let mut params = *script.params();
+    params.filter = filter;
+    script.set_params(params);
+    Ok(FILTER)
+}
+
 /// `requests A B C D`
+#[tactic(auto, using(crate::proofs::Ranges::pools_in_range))]
 fn requests_line(
     script: &mut Script,
     place: u8,
@@ -55,27 +112,24 @@ fn requests_line(
     ensures { Gives (λ next. now_at next script.new) result (Rattle.un_script.specs.Reading.requests_line (now_at place script.old) a.now b.now c.now d.now) }
 {
     if !may_follow(place, REQUESTS) {
-        return refuse(Why::Form);
+        return refuse(Why::Order);
     }
     let Some(tx_out) = number(a) else {
-        return refuse(Why::Form);
+        return refuse(Why::Number);
     };
     let Some(rx_out) = number(b) else {
-        return refuse(Why::Form);
+        return refuse(Why::Number);
     };
     let Some(tx_in) = number(c) else {
-        return refuse(Why::Form);
+        return refuse(Why::Number);
     };
     let Some(rx_in) = number(d) else {
-        return refuse(Why::Form);
+        return refuse(Why::Number);
     };
-    if !(is_pool_size(tx_out)
-        && is_pool_size(rx_out)
-        && is_pool_size(tx_in)
-        && is_pool_size(rx_in))
-    {
-        return refuse(Why::Form);
+    if !(is_pool_size(tx_out) && is_pool_size(rx_out) && is_pool_size(tx_in) && is_pool_size(rx_in)) {
+        return refuse(Why::Range);
     }
+    script.is_ready();
     let mut params = *script.params();
     params.tx_out = tx_out as u32;
     params.rx_out = rx_out as u32;
@@ -85,7 +139,7 @@ fn requests_line(
     Ok(REQUESTS)
 }
 
-/// `out 0 HEX`
+/// `out S HEX` and `in S HEX`
 fn frame_line(
     alloc: Global,
     script: &mut Script,
@@ -94,52 +148,135 @@ fn frame_line(
     s: &[u8],
     hex: &[u8],
 ) -> Result<u8, Refused>
+    requires { 0 < length hex.now }
     ensures { Gives (λ next. now_at next script.new) result (Rattle.un_script.specs.Reading.frame_line (now_at place script.old) key.now s.now hex.now) }
 {
-    if !is(key, b"out") {
-        return refuse(Why::Form);
-    }
-    if !is(s, b"0") {
-        return refuse(Why::Form);
-    }
+    let Some(lane) = lane_named(key) else {
+        return refuse(Why::Word);
+    };
     if !may_follow(place, BODY) {
-        return refuse(Why::Form);
+        return refuse(Why::Order);
     }
+    let Some(sender) = number(s) else {
+        return refuse(Why::Number);
+    };
     let frame = bytes(alloc, hex)?;
-    if frame.is_empty() {
-        return refuse(Why::Form);
+    if sender > 3 {
+        return refuse(Why::Range);
     }
     if script.frame_count() >= 65536 {
-        return refuse(Why::Form);
+        return refuse(Why::Count);
     }
-    if script
-        .add_frame(Lane::Outward, 0, Bytes::make(frame))
-        .is_err()
-    {
+    if script.add_frame(lane, sender as u32, Bytes::make(frame)).is_err() {
         return Err(Refused::NoMemory);
     }
     Ok(BODY)
 }
 
-/// The bytes that pairs of hexadecimal digits are.
+/// The bytes that pairs of hexadecimal digits are, one for each pair.
+#[tactic(auto, using(crate::proofs::Decoded::decoded_some))]
 fn bytes(alloc: Global, word: &[u8]) -> Result<Vec<u8>, Refused>
-    ensures { Gives (λ v. v.items) result (given Form (bytes_of word.now)) }
+    requires { 0 < length word.now }
+    ensures given { Gives (λ v. v.items) result (given Hex (bytes_of word.now)) }
+    ensures some { IfOk result (λ v. 0 < length v.items) }
 {
     match hex::decode(alloc, word) {
         Ok(bytes) => Ok(bytes),
         Err(FromHexError::OutOfMemory) => Err(Refused::NoMemory),
-        Err(_) => Err(Refused::Because(Why::Form)),
+        Err(_) => Err(Refused::Because(Why::Hex)),
     }
 }
 
-/// A line.
-#[tactic(auto, using(crate::proofs::Heard::heard, crate::proofs::Heard::too_many))]
-fn read_line(alloc: Global, script: &mut Script, place: u8, line: &[u8]) -> Result<u8, Refused>
+/// `at L W CONTROL`
+#[tactic(auto, using(crate::proofs::Standings::standing_more))]
+fn control_line(
+    script: &mut Script,
+    place: u8,
+    l: &[u8],
+    w: &[u8],
+    control: Option<Control>,
+) -> Result<u8, Refused>
+    ensures { Gives (λ next. now_at next script.new) result (Rattle.un_script.specs.Reading.control_line (now_at place script.old) l.now w.now control) }
+{
+    let Some(lane) = lane_named(l) else {
+        return refuse(Why::Word);
+    };
+    let Some(control) = control else {
+        return refuse(Why::Word);
+    };
+    if !may_follow(place, BODY) {
+        return refuse(Why::Order);
+    }
+    let Some(want) = number(w) else {
+        return refuse(Why::Number);
+    };
+    if want > 65536 {
+        return refuse(Why::Range);
+    }
+    if script.control_count() >= 256 {
+        return refuse(Why::Count);
+    }
+    if stands_after(control, script.standing()).is_none() {
+        return refuse(Why::Control);
+    }
+    let due = Due {
+        lane,
+        want,
+        control,
+    };
+    if script.add_control(due).is_err() {
+        return Err(Refused::NoMemory);
+    }
+    Ok(BODY)
+}
+
+/// `fault L K KIND`
+fn fault_line(script: &mut Script, place: u8, l: &[u8], k: &[u8], f: &[u8]) -> Result<u8, Refused>
+    ensures { Gives (λ next. now_at next script.new) result (Rattle.un_script.specs.Reading.fault_line (now_at place script.old) l.now k.now f.now) }
+{
+    let Some(lane) = lane_named(l) else {
+        return refuse(Why::Word);
+    };
+    let Some(kind) = kind_named(f) else {
+        return refuse(Why::Word);
+    };
+    if !may_follow(place, BODY) {
+        return refuse(Why::Order);
+    }
+    let Some(serial) = number(k) else {
+        return refuse(Why::Number);
+    };
+    if serial > 65535 {
+        return refuse(Why::Range);
+    }
+    if script.fault_count() >= 1024 {
+        return refuse(Why::Count);
+    }
+    if script.fault(lane, serial).is_some() {
+        return refuse(Why::Fault);
+    }
+    if script.add_fault(lane, serial, kind).is_err() {
+        return Err(Refused::NoMemory);
+    }
+    Ok(BODY)
+}
+
+/// A line that isn't skipped.
+#[tactic(auto, using(crate::proofs::Heard::heard, crate::proofs::Heard::unheard, crate::proofs::Heard::too_many))]
+fn read_line(
+    alloc: Global,
+    script: &mut Script,
+    place: u8,
+    line: &[u8],
+) -> Result<u8, Refused>
     ensures { Gives (λ next. now_at next script.new) result (line_read (now_at place script.old) line.now) }
 {
+    if !is_spelled(line) {
+        return refuse(Why::Word);
+    }
     let (key, rest) = cut_word(line);
     let Some(rest) = rest else {
-        return refuse(Why::Form);
+        return refuse(Why::Word);
     };
     let (a, rest) = cut_word(rest);
     let Some(rest) = rest else {
@@ -151,12 +288,12 @@ fn read_line(alloc: Global, script: &mut Script, place: u8, line: &[u8]) -> Resu
     };
     let (c, rest) = cut_word(rest);
     let Some(rest) = rest else {
-        return refuse(Why::Form);
+        return read_four(script, place, key, a, b, c);
     };
     let (d, rest) = cut_word(rest);
     match rest {
         None => read_five(script, place, key, a, b, c, d),
-        Some(_) => refuse(Why::Form),
+        Some(_) => refuse(Why::Word),
     }
 }
 
@@ -171,8 +308,29 @@ fn read_two(
 {
     if is(key, b"class") {
         class_line(alloc, script, place, a)
+    } else if is(key, b"filter") {
+        filter_line(script, place, a)
     } else {
-        refuse(Why::Form)
+        number_line(script, place, key, a)
+    }
+}
+
+fn read_four(
+    script: &mut Script,
+    place: u8,
+    key: &[u8],
+    a: &[u8],
+    b: &[u8],
+    c: &[u8],
+) -> Result<u8, Refused>
+    ensures { Gives (λ next. now_at next script.new) result (words_read (now_at place script.old) (key.now ∷ a.now ∷ b.now ∷ c.now ∷ [])) }
+{
+    if is(key, b"at") {
+        control_line(script, place, a, b, control_named(c))
+    } else if is(key, b"fault") {
+        fault_line(script, place, a, b, c)
+    } else {
+        refuse(Why::Word)
     }
 }
 
@@ -187,20 +345,21 @@ fn read_five(
 ) -> Result<u8, Refused>
     ensures { Gives (λ next. now_at next script.new) result (words_read (now_at place script.old) (key.now ∷ a.now ∷ b.now ∷ c.now ∷ d.now ∷ [])) }
 {
-    if is(key, b"requests") {
+    if is(key, b"at") {
+        control_line(script, place, a, b, unlink_named(c, d))
+    } else if is(key, b"requests") {
         requests_line(script, place, a, b, c, d)
     } else {
-        refuse(Why::Form)
+        refuse(Why::Word)
     }
 }
 
-/// Reads a script: the line `class ecm`, then at most one line `requests A B C D` (numbers from 1 to 64, the sizes of the
-/// pools tx_out, rx_out, tx_in and rx_in), then at most 65,536 lines `out 0 HEX` (a frame of at least one byte, as pairs of
-/// hexadecimal digits of either case). The form is this project's own.
+/// Reads a script. Its lines are cut at line feeds, and the last may lack its own; a line that is empty or begins with `#` is skipped. The line `class C` comes first, then the lines of
+/// parameters in their order, each at most once, then the lines of frames, controls and planned faults in any order. The form is this project's own (docs/FORMATS.md has the whole table).
 ///
 /// # Errors
 ///
-/// `BadLine` at the first line that isn't in the form, `NoMemory` where there is no memory for the script.
+/// `BadLine` at the first line that is refused, with the first reason that applies; `NoMemory` where there is no memory for the script.
 #[tactic(auto, using(crate::proofs::Ranges::defaults_in_range), unfolding(crate::specs::Reading::lines_read, crate::specs::Reading::script_of, crate::specs::Words::lines_of))]
 pub fn read(alloc: Global, bytes: &[u8]) -> Result<Script, ScriptError>
     ensures { ReadGives (λ s. s) result (script_of bytes.now) }
@@ -211,10 +370,14 @@ pub fn read(alloc: Global, bytes: &[u8]) -> Result<Script, ScriptError>
     let mut rest = bytes;
     while !rest.is_empty() {
         let (line, more) = cut_line(rest);
-        match read_line(alloc, &mut script, place, line) {
-            Ok(next) => place = next,
-            Err(Refused::Because(why)) => return Err(ScriptError::BadLine { line: number, why }),
-            Err(Refused::NoMemory) => return Err(ScriptError::NoMemory),
+        if !is_skipped(line) {
+            match read_line(alloc, &mut script, place, line) {
+                Ok(next) => place = next,
+                Err(Refused::Because(why)) => {
+                    return Err(ScriptError::BadLine { line: number, why });
+                }
+                Err(Refused::NoMemory) => return Err(ScriptError::NoMemory),
+            }
         }
         number += 1;
         rest = more;
@@ -222,7 +385,7 @@ pub fn read(alloc: Global, bytes: &[u8]) -> Result<Script, ScriptError>
     if place == 0 {
         return Err(ScriptError::BadLine {
             line: number,
-            why: Why::Form,
+            why: Why::Word,
         });
     }
     Ok(script)

@@ -4,6 +4,7 @@ ghost use Rattle.std.specs.Prelude.{◌≡◌, ◌<◌, ◌≤◌, ◌∷◌, �
 ghost use Rattle.un_frame.specs.Params.{AreInRange};
 ghost use Rattle.un_journal.specs.Script.{planned, frames_of, feed_list};
 ghost use Rattle.un_script.specs.Parts.{empty_script, no_frames, frame_added, with_frame, frame_count, standing_of, may_come};
+ghost use Rattle.un_script.specs.Ready.{IsReady};
 ghost use Rattle.un_script.specs.Table.{is_sender, is_want, is_planned_serial, MOST_FRAMES, MOST_CONTROLS, MOST_FAULTS};
 
 use crate::plan::Plan;
@@ -100,15 +101,17 @@ impl Model for Script {
     ghost Value = { ScriptData };
 
     ghost use Rattle.un_script.specs.Parts.{standing_of, frames_in_all};
+    ghost use Rattle.un_script.specs.Ready.{IsReady};
 
     ghost view = { λ s. record { params = s.params; outward = s.outward; inward = s.inward; controls = s.controls.items; faults = s.faults } };
 
-    ghost invariant = { λ s. (s.frames ≡ frames_in_all s.outward + frames_in_all s.inward) × (standing_of s.controls.items ≡ Some s.standing) };
+    ghost invariant = { λ s. (s.frames ≡ frames_in_all s.outward + frames_in_all s.inward) × (standing_of s.controls.items ≡ Some s.standing)
+        × IsReady (record { params = s.params; outward = s.outward; inward = s.inward; controls = s.controls.items; faults = s.faults }) };
 }
 
 impl Script {
     /// A script with no frames, controls and faults. It keeps the allocator for those that are added.
-    #[tactic(auto, unfolding(crate::specs::Parts::standing_from))]
+    #[tactic(auto, using(crate::proofs::Readiness::empty_ready), unfolding(crate::specs::Parts::standing_from))]
     pub fn make(alloc: Global, params: Params) -> Script
         requires { AreInRange params }
         ensures { result ≡ empty_script params }
@@ -124,6 +127,13 @@ impl Script {
         }
     }
 
+    /// What each script has: its parameters are in their ranges, each frame has bytes, each control can follow the earlier ones, and there are no more of each than it may have.
+    pub fn is_ready(&self)
+        ensures { IsReady self.now }
+    {
+        let _frames = self.frames;
+    }
+
     /// Lends the parameters.
     pub fn params(&self) -> &Params
         ensures { result.now ≡ self.now.params }
@@ -131,7 +141,10 @@ impl Script {
         &self.params
     }
 
+    /// Puts other parameters in place of these.
+    #[tactic(auto, using(crate::proofs::Readiness::params_ready))]
     pub(crate) fn set_params(&mut self, params: Params)
+        requires { AreInRange params }
         ensures { self.new ≡ record self.old { params = params } }
     {
         self.params = params;
@@ -144,8 +157,30 @@ impl Script {
         self.frames
     }
 
+    /// How many controls there are.
+    pub fn control_count(&self) -> u32
+        ensures { result ≡ length self.now.controls }
+    {
+        self.controls.len() as u32
+    }
+
+    /// How many faults are planned.
+    pub fn fault_count(&self) -> u32
+        ensures { result ≡ length self.now.faults }
+    {
+        self.faults.len() as u32
+    }
+
+    /// How a link stands after the controls.
+    pub(crate) fn standing(&self) -> Standing
+        ensures { standing_of self.now.controls ≡ Some result }
+    {
+        self.standing
+    }
+
     /// Adds a frame at the end of a sender's feed. After the error, which is want of memory, the script is unchanged and the
     /// frame is given up.
+    #[tactic(auto, using(crate::proofs::Readiness::frame_ready, crate::proofs::Readiness::one_more))]
     pub fn add_frame(&mut self, lane: Lane, sender: u32, frame: Bytes) -> Result<(), AllocError>
         requires sender { IsTrue (is_sender sender) }
         requires bytes { 0 < length frame }
@@ -153,17 +188,19 @@ impl Script {
         ensures ok { OnOk result (self.new ≡ with_frame lane sender frame self.old) }
         ensures err { OnErr result (self.new ≡ self.old) }
     {
-        match lane {
-            Lane::Outward => self.outward.add(sender, frame)?,
-            Lane::Inward => self.inward.add(sender, frame)?,
+        if let Lane::Outward = lane {
+            self.outward.add(sender, frame)?;
+            self.frames += 1;
+            return Ok(());
         }
+        self.inward.add(sender, frame)?;
         self.frames += 1;
         Ok(())
     }
 
     /// Adds a control behind the others, which it has to be able to follow. After the error, which is want of memory, the
     /// script is unchanged.
-    #[tactic(auto, using(crate::proofs::Standings::standing_more))]
+    #[tactic(auto, using(crate::proofs::Standings::standing_more, crate::proofs::Readiness::control_ready))]
     pub fn add_control(&mut self, due: Due) -> Result<(), AllocError>
         requires want { IsTrue (is_want due.want) }
         requires room { length self.old.controls < MOST_CONTROLS }
@@ -180,6 +217,7 @@ impl Script {
     }
 
     /// Plans a fault for a transfer that has none planned. After the error, which is want of memory, the script is unchanged.
+    #[tactic(auto, using(crate::proofs::Readiness::fault_ready))]
     pub fn add_fault(&mut self, lane: Lane, serial: u64, kind: FaultKind) -> Result<(), AllocError>
         requires serial { IsTrue (is_planned_serial serial) }
         requires room { length self.old.faults < MOST_FAULTS }

@@ -1,16 +1,144 @@
-//! The places and ranges of a script's lines, and the parameters where no line says others.
+//! The words, places and ranges of a script's lines, and the parameters where no line says others.
 
-ghost use Rattle.std.specs.Prelude.{◌≡◌};
+ghost use Rattle.std.specs.Prelude.{◌≡◌, ◌<◌, ◌^◌, IsTrue};
 ghost use Rattle.std.specs.Str.{bytes_eq};
-ghost use Rattle.un_script.specs.Table.{may_follow, is_pool_size, defaults};
+ghost use Rattle.un_frame.specs.Params.{most_block};
+ghost use Rattle.un_script.specs.Table.{class_named, lane_named, kind_named, control_named, parameter_named, place_of, may_follow, is_allowed, is_filter, is_pool_size, with_number, defaults};
+ghost use Rattle.un_script.specs.Reading.{unlink_named};
 
-use un_frame::{Class, Params};
+use un_frame::{Class, FaultKind, Lane, Params};
+use un_journal::Control;
+
+/// A parameter whose line is its name and one number.
+#[derive(Clone, Copy, Debug, PartialEq, Eq)]
+pub enum Parameter {
+    Segment,
+    Packet,
+    Block,
+    Datagrams,
+    Divisor,
+    Remainder,
+    Alignment,
+}
 
 /// Whether two words are the same.
 pub fn is(word: &[u8], name: &[u8]) -> bool
     ensures { result ≡ bytes_eq word.now name.now }
 {
     word == name
+}
+
+/// The class of a word.
+pub fn class_named(word: &[u8]) -> Option<Class>
+    ensures { result ≡ Rattle.un_script.specs.Table.class_named word.now }
+{
+    if is(word, b"ecm") {
+        Some(Class::Ecm)
+    } else if is(word, b"eem") {
+        Some(Class::Eem)
+    } else if is(word, b"ncm16") {
+        Some(Class::Ncm16)
+    } else if is(word, b"ncm32") {
+        Some(Class::Ncm32)
+    } else {
+        None
+    }
+}
+
+/// The lane of a word.
+pub fn lane_named(word: &[u8]) -> Option<Lane>
+    ensures { result ≡ Rattle.un_script.specs.Table.lane_named word.now }
+{
+    if is(word, b"out") {
+        Some(Lane::Outward)
+    } else if is(word, b"in") {
+        Some(Lane::Inward)
+    } else {
+        None
+    }
+}
+
+/// The kind of a planned fault.
+pub fn kind_named(word: &[u8]) -> Option<FaultKind>
+    ensures { result ≡ Rattle.un_script.specs.Table.kind_named word.now }
+{
+    if is(word, b"proto") {
+        Some(FaultKind::Proto)
+    } else if is(word, b"halt") {
+        Some(FaultKind::Halt)
+    } else {
+        None
+    }
+}
+
+/// The control of one word.
+pub fn control_named(word: &[u8]) -> Option<Control>
+    ensures { result ≡ Rattle.un_script.specs.Table.control_named word.now }
+{
+    if is(word, b"suspend") {
+        Some(Control::Suspend)
+    } else if is(word, b"resume") {
+        Some(Control::Resume)
+    } else if is(word, b"down") {
+        Some(Control::Down)
+    } else if is(word, b"up") {
+        Some(Control::Up)
+    } else if is(word, b"unplug") {
+        Some(Control::Unplug)
+    } else {
+        None
+    }
+}
+
+/// The control of the two words `unlink` and a lane.
+pub fn unlink_named(word: &[u8], lane: &[u8]) -> Option<Control>
+    ensures { result ≡ Rattle.un_script.specs.Reading.unlink_named word.now lane.now }
+{
+    if !is(word, b"unlink") {
+        return None;
+    }
+    match lane_named(lane) {
+        Some(lane) => Some(Control::Unlink { lane }),
+        None => None,
+    }
+}
+
+/// The parameter of one number that a line begins with.
+pub fn parameter_named(word: &[u8]) -> Option<Parameter>
+    ensures { result ≡ Rattle.un_script.specs.Table.parameter_named word.now }
+{
+    if is(word, b"segment") {
+        Some(Parameter::Segment)
+    } else if is(word, b"packet") {
+        Some(Parameter::Packet)
+    } else if is(word, b"block") {
+        Some(Parameter::Block)
+    } else if is(word, b"datagrams") {
+        Some(Parameter::Datagrams)
+    } else if is(word, b"divisor") {
+        Some(Parameter::Divisor)
+    } else if is(word, b"remainder") {
+        Some(Parameter::Remainder)
+    } else if is(word, b"alignment") {
+        Some(Parameter::Alignment)
+    } else {
+        None
+    }
+}
+
+/// Where the parameter's line stands.
+pub fn place_of(parameter: Parameter) -> u8
+    ensures { result ≡ Rattle.un_script.specs.Table.place_of parameter }
+{
+    match parameter {
+        Parameter::Segment => 2,
+        Parameter::Packet => 3,
+        Parameter::Block => 5,
+        Parameter::Datagrams => 6,
+        Parameter::Divisor => 7,
+        Parameter::Remainder => 8,
+        Parameter::Alignment => 9,
+    }
 }
 
 /// Whether a line of this place may follow one of that place, with 0 where none came.
@@ -24,11 +152,60 @@ pub fn may_follow(last: u8, place: u8) -> bool
     }
 }
 
+/// The largest block of a class.
+fn most_block(class: Class) -> u64
+    ensures { result ≡ Rattle.un_frame.specs.Params.most_block class }
+{
+    match class {
+        Class::Ncm16 => 65535,
+        Class::Ecm | Class::Eem | Class::Ncm32 => 262144,
+    }
+}
+
+/// Whether a parameter may have this value.
+pub fn is_allowed(class: Class, parameter: Parameter, n: u64) -> bool
+    ensures { result ≡ Rattle.un_script.specs.Table.is_allowed class parameter n }
+{
+    match parameter {
+        Parameter::Segment => 60 <= n && n <= 8192,
+        Parameter::Packet => [8, 16, 32, 64, 128, 256, 512, 1024].contains(&n),
+        Parameter::Block => 2048 <= n && n <= most_block(class),
+        Parameter::Datagrams => n <= 1024,
+        Parameter::Divisor => 1 <= n && n <= 64,
+        Parameter::Remainder => n <= 63,
+        Parameter::Alignment => 4 <= n && n <= 64,
+    }
+}
+
+/// Whether a filter is one.
+pub fn is_filter(n: u8) -> bool
+    ensures { result ≡ Rattle.un_script.specs.Table.is_filter n }
+{
+    n <= 0x1f
+}
+
 /// Whether a pool may have so many requests.
 pub fn is_pool_size(n: u64) -> bool
     ensures { result ≡ Rattle.un_script.specs.Table.is_pool_size n }
 {
     1 <= n && n <= 64
+}
+
+/// The parameters with another number.
+pub fn with_number(parameter: Parameter, n: u32, params: Params) -> Params
+    ensures { result ≡ Rattle.un_script.specs.Table.with_number parameter n params }
+{
+    let mut params = params;
+    match parameter {
+        Parameter::Segment => params.segment = n,
+        Parameter::Packet => params.packet = n,
+        Parameter::Block => params.block = n,
+        Parameter::Datagrams => params.datagrams = n,
+        Parameter::Divisor => params.divisor = n,
+        Parameter::Remainder => params.remainder = n,
+        Parameter::Alignment => params.alignment = n,
+    }
+    params
 }
 
 /// The parameters of a class where a script says no others.

@@ -3,32 +3,55 @@
 use std::fmt::{self, Display, Formatter, Write};
 use thiserror::Error;
 
-/// Why a line is refused (this project's own).
+/// The first reason that applies to a line that is refused (this project's own).
 #[derive(Clone, Copy, Debug, PartialEq, Eq)]
 pub enum Why {
-    /// It is outside the form of scripts.
-    Form,
+    /// A byte is outside printable ASCII, a word is empty, or the first word, the number of words or a fixed word (class, lane, control, kind) is none of the table.
+    Word,
+    /// The class line isn't first, or a parameter's line repeats or stands after a later one's or a line of the body.
+    Order,
+    /// A number isn't one to ten digits, or begins with a zero.
+    Number,
+    /// A number or a filter is outside its range.
+    Range,
+    /// A frame isn't hexadecimal digits in pairs, or a filter isn't two of them.
+    Hex,
+    /// It is frame 65,537, control 257 or planned fault 1,025.
+    Count,
+    /// The control can't follow the earlier ones.
+    Control,
+    /// An earlier line plans a fault for the same transfer.
+    Fault,
 }
 
 impl Display for Why {
     fn fmt<W: Write>(&self, f: &mut Formatter<W>) -> fmt::Result {
-        match self {
-            Why::Form => f.write_str("form"),
-        }
+        f.write_str(match self {
+            Why::Word => "word",
+            Why::Order => "order",
+            Why::Number => "number",
+            Why::Range => "range",
+            Why::Hex => "hex",
+            Why::Count => "count",
+            Why::Control => "control",
+            Why::Fault => "fault",
+        })
     }
 }
 
 /// Why a line wasn't read.
 #[derive(Clone, Copy, Debug, PartialEq, Eq)]
 pub enum Refused {
+    /// For this reason.
     Because(Why),
+    /// There was no memory for what it says.
     NoMemory,
 }
 
 /// Why a text wasn't read as a script.
 #[derive(Clone, Copy, Debug, PartialEq, Eq, Error)]
 pub enum ScriptError {
-    /// The first line that isn't in the form, counted from 1. Where the text has no line at all, it is line 1.
+    /// The first line that is refused, counted from 1, and why. Where each line is skipped, it is the one after the last.
     #[error("bad script {line} {why}")]
     BadLine { line: u64, why: Why },
     /// There was no memory for the script.
