@@ -6,4 +6,5 @@ pub mod Ranges
 pub mod Standings
 pub mod Readiness
 pub mod LawLemmas
+pub mod Loads
 pub mod Plans

@@ -7,3 +7,4 @@ pub mod Ready
 pub mod Reading
 pub mod Examples
 pub mod Law
+pub mod Load

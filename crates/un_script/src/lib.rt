@@ -2,6 +2,7 @@
 #![tactic(auto)]
 
 mod law;
+mod load;
 mod lines;
 mod numbers;
 mod plan;
@@ -14,6 +15,7 @@ mod tests;
 mod why;
 
 pub use law::read_scripts_are_ready;
+pub use load::generate;
 pub use reader::read;
 pub use script::Script;
 pub use why::{ScriptError, Why};
