@@ -20,7 +20,7 @@ range_more a (suc n) =
     let e : a + 1 + n ≡ a + suc n = omega arith in
     let same : suc (n + 1) ≡ suc n + 1 = omega arith in
     subst (λ m. range_with_len a m ≡ range_with_len a (suc n) ++ (a + suc n) ∷ []) same
-        (ap (λ xs. a ∷ xs) (subst (λ x. range_with_len (a + 1) (n + 1) ≡ range_with_len (a + 1) n ++ x ∷ []) e (range_more (a + 1) n)))
+    (ap (λ xs. a ∷ xs) (subst (λ x. range_with_len (a + 1) (n + 1) ≡ range_with_len (a + 1) n ++ x ∷ []) e (range_more (a + 1) n)))
 
 range_onward : (n : ℕ) → range_with_len 0 (n + 1) ≡ range_with_len 0 n ++ n ∷ []
 range_onward n = let e : 0 + n ≡ n = omega arith in subst (λ x. range_with_len 0 (n + 1) ≡ range_with_len 0 n ++ x ∷ []) e (range_more 0 n)

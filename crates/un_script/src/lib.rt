@@ -2,8 +2,8 @@
 #![tactic(auto)]
 
 mod law;
-mod load;
 mod lines;
+mod load;
 mod numbers;
 mod plan;
 mod reader;

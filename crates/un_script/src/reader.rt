@@ -37,12 +37,7 @@ fn refuse(why: Why) -> Result<u8, Refused>
 
 /// `class C`
 #[tactic(auto, using(crate::proofs::Ranges::defaults_in_range))]
-fn class_line(
-    alloc: Global,
-    script: &mut Script,
-    place: u8,
-    class: &[u8],
-) -> Result<u8, Refused>
+fn class_line(alloc: Global, script: &mut Script, place: u8, class: &[u8]) -> Result<u8, Refused>
     ensures { Gives (λ next. now_at next script.new) result (Rattle.un_script.specs.Reading.class_line (now_at place script.old) class.now) }
 {
     let Some(class) = class_named(class) else {
@@ -126,7 +121,11 @@ fn requests_line(
     let Some(rx_in) = number(d) else {
         return refuse(Why::Number);
     };
-    if !(is_pool_size(tx_out) && is_pool_size(rx_out) && is_pool_size(tx_in) && is_pool_size(rx_in)) {
+    if !(is_pool_size(tx_out)
+        && is_pool_size(rx_out)
+        && is_pool_size(tx_in)
+        && is_pool_size(rx_in))
+    {
         return refuse(Why::Range);
     }
     script.is_ready();
@@ -167,7 +166,10 @@ fn frame_line(
     if script.frame_count() >= 65536 {
         return refuse(Why::Count);
     }
-    if script.add_frame(lane, sender as u32, Bytes::make(frame)).is_err() {
+    if script
+        .add_frame(lane, sender as u32, Bytes::make(frame))
+        .is_err()
+    {
         return Err(Refused::NoMemory);
     }
     Ok(BODY)
@@ -263,12 +265,7 @@ fn fault_line(script: &mut Script, place: u8, l: &[u8], k: &[u8], f: &[u8]) -> R
 
 /// A line that isn't skipped.
 #[tactic(auto, using(crate::proofs::Heard::heard, crate::proofs::Heard::unheard, crate::proofs::Heard::too_many))]
-fn read_line(
-    alloc: Global,
-    script: &mut Script,
-    place: u8,
-    line: &[u8],
-) -> Result<u8, Refused>
+fn read_line(alloc: Global, script: &mut Script, place: u8, line: &[u8]) -> Result<u8, Refused>
     ensures { Gives (λ next. now_at next script.new) result (line_read (now_at place script.old) line.now) }
 {
     if !is_spelled(line) {

@@ -1,59 +1,125 @@
-//! What no clause says: whole texts with the values that the form gives, and that each call can succeed.
+//! What no clause says: whole texts with the values that the table gives, and that each call can succeed.
 
 use crate::table::defaults;
-use crate::{Script, ScriptError, Why, read};
+use crate::{Script, ScriptError, Why, generate, read};
 use std::alloc::Global;
 use std::test::Fail;
 use un_frame::{Bytes, Class, FaultKind, Lane};
 use un_journal::{Control, Due};
 
-/// Where the text is refused.
-fn refused_line(alloc: Global, text: &[u8]) -> Option<u64> {
+/// Where a text is refused, and why.
+fn refusal(alloc: Global, text: &[u8]) -> Option<(u64, Why)> {
     match read(alloc, text) {
-        Err(
-            ScriptError::BadLine {
-                line,
-                why: Why::Form,
-            },
-        ) => Some(line),
+        Err(ScriptError::BadLine { line, why }) => Some((line, why)),
         _ => None,
     }
 }
 
 #[test]
-fn reads_the_form(rt: HostRuntime) -> Result<(), Fail> {
-    let text = b"class ecm\nrequests 1 2 3 64\nout 0 0aFF\nout 0 00";
+fn reads_parameters(rt: HostRuntime) -> Result<(), Fail> {
+    let text =
+        b"# a comment\n\nclass ncm16\nsegment 8192\npacket 64\nfilter 1F\nblock 65535\ndatagrams 0\ndivisor 8\nremainder 7\nalignment 16\nrequests 1 2 3 64";
     let script = read(rt.alloc(), text)?;
     let params = script.params();
+    assert_eq!(rt;
+        (params.segment, params.packet, params.filter, params.block),
+        (8192, 64, 31, 65535)
+    );
+    assert_eq!(rt;
+        (
+            params.datagrams,
+            params.divisor,
+            params.remainder,
+            params.alignment
+        ),
+        (0, 8, 7, 16)
+    );
     assert_eq!(rt;
         (params.tx_out, params.rx_out, params.tx_in, params.rx_in),
         (1, 2, 3, 64)
     );
-    assert_eq!(rt; (params.segment, params.packet), (1514, 512));
-    assert!(rt; script.frame(Lane::Outward, 0, 0) == Some([0x0a, 0xff].as_slice()));
-    assert!(rt; script.frame(Lane::Outward, 0, 1) == Some([0].as_slice()));
-    assert!(rt; script.frame(Lane::Outward, 0, 2).is_none());
-    assert!(rt; script.frame(Lane::Inward, 0, 0).is_none());
-    assert_eq!(rt; script.frame_count(), 2);
     Ok(())
 }
 
 #[test]
-fn refuses_other_texts(rt: HostRuntime) {
-    let rows: [(&[u8], u64); 10] = [
-        (b"", 1),
-        (b"class wifi", 1),
-        (b"\nclass ecm", 1),
-        (b"class ecm\n\n", 2),
-        (b"class ecm\nclass ecm", 2),
-        (b"class ecm\nrequests 8 8 08 8", 2),
-        (b"class ecm\nout 0 00\nrequests 8 8 8 8", 3),
-        (b"class ecm\nout 0 0", 2),
-        (b"class ecm\nout  0 00", 2),
-        (b"class ecm\r\n", 1),
+fn reads_the_body(rt: HostRuntime) -> Result<(), Fail> {
+    let text = b"class ecm\nin 3 0aFF\nat in 7 unlink out\nfault out 3 halt\nat out 0 unplug\n";
+    let script = read(rt.alloc(), text)?;
+    assert!(rt; script.frame(Lane::Inward, 3, 0) == Some([0x0a, 0xff].as_slice()));
+    assert!(rt; script.frame(Lane::Inward, 3, 1).is_none());
+    assert!(rt; script.frame(Lane::Outward, 0, 0).is_none());
+    assert!(rt;
+        script.control(0)
+            == Some(Due {
+                lane: Lane::Inward,
+                want: 7,
+                control: Control::Unlink {
+                    lane: Lane::Outward
+                }
+            })
+    );
+    assert!(rt;
+        script.control(1)
+            == Some(Due {
+                lane: Lane::Outward,
+                want: 0,
+                control: Control::Unplug
+            })
+    );
+    assert!(rt; script.fault(Lane::Outward, 3) == Some(FaultKind::Halt));
+    assert!(rt; script.fault(Lane::Inward, 3).is_none());
+    Ok(())
+}
+
+#[test]
+fn refuses_words_and_order(rt: HostRuntime) {
+    let rows: [(&[u8], u64, Why); 13] = [
+        (b"", 1, Why::Word),
+        (b"#\n\n", 3, Why::Word),
+        (b"class wifi", 1, Why::Word),
+        (b"class ecm\r\n", 1, Why::Word),
+        (b"class ecm\nout  0 00", 2, Why::Word),
+        (b"class ecm\nout 0 00 ", 2, Why::Word),
+        (b"class ecm\n \n", 2, Why::Word),
+        (b"class ecm\nat out 0 unlink", 2, Why::Word),
+        (b"packet 8", 1, Why::Order),
+        (b"class ecm\nclass ecm", 2, Why::Order),
+        (b"class ecm\npacket 8\nsegment 60", 3, Why::Order),
+        (b"class ecm\nout 0 00\nrequests 8 8 8 8", 3, Why::Order),
+        (
+            b"class ecm\nrequests 8 8 8 8\nrequests 8 8 8 8",
+            3,
+            Why::Order,
+        ),
     ];
-    for (text, line) in rows {
-        assert_eq!(rt; refused_line(rt.alloc(), text), Some(line));
+    for (text, line, why) in rows {
+        assert!(rt; refusal(rt.alloc(), text) == Some((line, why)));
+    }
+}
+
+#[test]
+fn refuses_values(rt: HostRuntime) {
+    let rows: [(&[u8], u64, Why); 13] = [
+        (b"class ecm\nrequests 65 8 08 8", 2, Why::Number),
+        (b"class ecm\nsegment 00060", 2, Why::Number),
+        (b"class ecm\nout 4x 0", 2, Why::Number),
+        (b"class ecm\nfault out 12345678901 halt", 2, Why::Number),
+        (b"class ecm\nout 4 0200000", 2, Why::Hex),
+        (b"class ecm\nout 0 0200000", 2, Why::Hex),
+        (b"class ecm\nfilter 1", 2, Why::Hex),
+        (b"class ecm\nfilter 20", 2, Why::Range),
+        (b"class ecm\npacket 100", 2, Why::Range),
+        (b"class ncm16\nblock 65536", 2, Why::Range),
+        (b"class ecm\nout 4 02", 2, Why::Range),
+        (b"class ecm\nat out 0 resume\n", 2, Why::Control),
+        (
+            b"class ecm\nfault in 0 halt\nfault out 0 halt\nfault in 0 proto",
+            4,
+            Why::Fault,
+        ),
+    ];
+    for (text, line, why) in rows {
+        assert!(rt; refusal(rt.alloc(), text) == Some((line, why)));
     }
 }
 
@@ -72,9 +138,30 @@ fn adds_each_part(rt: HostRuntime) -> Result<(), Fail> {
     script.add_control(suspend)?;
     assert!(rt; script.frame(Lane::Inward, 3, 0) == Some([7, 7].as_slice()));
     assert!(rt; script.fault(Lane::Inward, 5) == Some(FaultKind::Halt));
-    assert!(rt; script.fault(Lane::Outward, 5).is_none());
     assert!(rt; script.control(0) == Some(suspend));
     assert!(rt; script.control(1).is_none());
+    assert_eq!(rt;
+        (
+            script.frame_count(),
+            script.control_count(),
+            script.fault_count()
+        ),
+        (1, 1, 1)
+    );
+    Ok(())
+}
+
+#[test]
+fn generates_a_load(rt: HostRuntime) -> Result<(), Fail> {
+    let script = generate(rt.alloc(), 1)?;
+    let frame = script.frame(Lane::Outward, 0, 0).unwrap_or(&[]);
+    assert_eq!(rt; frame.len(), 60);
+    assert!(rt;
+        frame.starts_with(&[
+            2, 0, 0, 0, 0, 1, 2, 0, 0, 0, 0, 2, 8, 0, 0, 0, 0, 0, 0x12, 0x13
+        ])
+    );
+    assert!(rt; frame.last() == Some(&0x3b));
     assert_eq!(rt; script.frame_count(), 1);
     Ok(())
 }
