@@ -3,8 +3,8 @@
 use Rattle.std.proofs.Common.{ℕ, ◌≤◌, ◌≡◌, ◌↔◌, Bool, true, false, List, [], ◌++◌, length, Option, Some, None, Result, Ok, Err, ◌⊎◌, inl, inr, refl, sym, ap, ◌∙◌, arith, length-append, append-nil}
 use Rattle.std.specs.Io.KnownBytes.{Consumes, IsAtEnd}
 use Rattle.un_journal.specs.Script.{Script}
-use Rattle.un_script.specs.declared.why.Why.{Why}
-use Rattle.un_script.specs.Reading.{script_of}
+use Rattle.un_script.specs.declared.first.FirstWhy.{FirstWhy}
+use Rattle.un_script.specs.First.{first_script_of}
 use Rattle.usbnet_run.specs.Command.{RefusalsAreExact, IsNoScript, Ends, done, no_memory, read_fault, write_fault, bad_words, bad_script, too_large, IsComplete, is_serial, MOST_INPUT}
 
 -- a source that is at its end gave all that it had
@@ -16,7 +16,7 @@ gave_some : (text given : List ℕ) (left : Option (List ℕ)) → Consumes (Som
 gave_some text given None c = absurd c
 gave_some text given (Some rest) c = let size = length-append given rest in let same = ap length c in omega (arith, size, same)
 
-no_script : (script : Script) (bad : ℕ × Why) (read : Result Script (ℕ × Why)) → read ≡ Ok script → read ≡ Err bad → ⊥
+no_script : (script : Script) (bad : ℕ × FirstWhy) (read : Result Script (ℕ × FirstWhy)) → read ≡ Ok script → read ≡ Err bad → ⊥
 no_script script bad read a b = cc
 
 pub complete : IsComplete
@@ -26,7 +26,7 @@ complete words text given left held held' script _ (read_fault w size t) c seria
 complete words text given left held held' script _ (write_fault s h w whole r t) c serial few is a b = absurd (b refl)
 complete words text given left held held' script _ (bad_words w g t) c serial few is a b = absurd (cc)
 complete words text given left held held' script _ (bad_script line why w whole r t) c serial few is a b =
-    absurd (no_script script (line, why) (script_of given) (ap script_of (sym (gave_all text given left c whole.0)) ∙ is) r)
+    absurd (no_script script (line, why) (first_script_of given) (ap first_script_of (sym (gave_all text given left c whole.0)) ∙ is) r)
 complete words text given left held held' script _ (too_large w size t) c serial few is a b =
     let some = gave_some text given left c in absurd (omega (arith, some))
 
@@ -38,8 +38,8 @@ no_both b h f = cc
 good_words : (words : List (List ℕ)) (status : ℕ) → is_serial words ≡ true → (status ≡ 4 → ⊥) → (status ≡ 4) ↔ (is_serial words ≡ false)
 good_words words status w other = (λ e. absurd (other e), λ f. absurd (no_both (is_serial words) w f))
 
-is_script : (given : List ℕ) (script : Script) → script_of given ≡ Ok script → IsNoScript given → ⊥
-is_script given script is bad = no_script script (bad.0, bad.1) (script_of given) is bad.2
+is_script : (given : List ℕ) (script : Script) → first_script_of given ≡ Ok script → IsNoScript given → ⊥
+is_script given script is bad = no_script script (bad.0, bad.1) (first_script_of given) is bad.2
 
 pub exact : RefusalsAreExact
 exact words given left held held' _ (done script history w whole is t) = record {

@@ -2,22 +2,22 @@
 use Rattle.std.proofs.Common.{ℕ, List, [], ◌∷◌, ◌++◌, ◌≡◌, codes, decimal, Option, Result, Ok, sym, ap, subst, ◌∙◌}
 use Rattle.un_frame.specs.Params.{AreInRange}
 use Rattle.un_journal.specs.Script.{Script}
-use Rattle.un_script.specs.declared.why.Why.{Why}
-use Rattle.un_script.specs.Reading.{script_of}
-use Rattle.un_script.proofs.LawLemmas.{read_ready}
+use Rattle.un_script.specs.declared.first.FirstWhy.{FirstWhy}
+use Rattle.un_script.specs.First.{first_script_of}
+use Rattle.un_script.proofs.FirstLaw.{first_ready}
 use Rattle.usbnet_run.specs.Command.{Tells, why_word, bad_script_line}
 
-pub script_given : (lent text given : List ℕ) (read : Result Script (ℕ × Why)) → lent ≡ text → text ≡ given → script_of lent ≡ read → script_of given ≡ read
-script_given lent text given read e f h = ap script_of (sym (e ∙ f)) ∙ h
+pub script_given : (lent text given : List ℕ) (read : Result Script (ℕ × FirstWhy)) → lent ≡ text → text ≡ given → first_script_of lent ≡ read → first_script_of given ≡ read
+script_given lent text given read e f h = ap first_script_of (sym (e ∙ f)) ∙ h
 
-pub script_in_range : (text : List ℕ) (script : Script) → script_of text ≡ Ok script → AreInRange script.params
-script_in_range text script h = (read_ready text script h).in_range
+pub script_in_range : (text : List ℕ) (script : Script) → first_script_of text ≡ Ok script → AreInRange script.params
+script_in_range text script h = (first_ready text script h).in_range
 
 pub told_line : (held held' : Option (List ℕ)) (lent text line : List ℕ) → lent ≡ text → text ≡ line → Tells held held' lent → Tells held held' line
 told_line held held' lent text line e f h = let P : List ℕ → Type 0 = λ t. Tells held held' t in subst P (e ∙ f) h
 
 -- the line of a refusal, word by word
-pub refusal : (a b c d e word : List ℕ) (line : ℕ) (why : Why) → a ≡ [] → b ≡ a ++ codes "bad script" → c ≡ b ++ 32 ∷ decimal line
+pub refusal : (a b c d e word : List ℕ) (line : ℕ) (why : FirstWhy) → a ≡ [] → b ≡ a ++ codes "bad script" → c ≡ b ++ 32 ∷ decimal line
     → word ≡ why_word why → d ≡ c ++ 32 ∷ word → e ≡ d ++ codes "\n" → e ≡ bad_script_line line why
 refusal a b c d e word line why ha hb hc hw hd he =
     he ∙ ap (λ t. t ++ codes "\n") (hd ∙ ap (λ t. t ++ 32 ∷ word) (hc ∙ ap (λ t. t ++ 32 ∷ decimal line) (hb ∙ ap (λ t. t ++ codes "bad script") ha))

@@ -10,7 +10,7 @@ use crate::serial::run_script;
 use std::alloc::Global;
 use un_io::{ReadError, Sink, Source, read_whole, write_whole};
 use un_journal::{Buffer, number, word, write_trace};
-use un_script::{ScriptError, Why};
+use un_script::{FirstError, FirstWhy};
 
 /// The most bytes of input.
 const MOST_INPUT: u64 = 16_777_216;
@@ -25,12 +25,12 @@ fn is_serial(words: &[String]) -> bool
     words[0].as_bytes() == b"serial".as_slice()
 }
 
-fn why_word(why: Why) -> &'static [u8]
+fn why_word(why: FirstWhy) -> &'static [u8]
     ensures word { result.now ≡ Rattle.usbnet_run.specs.Command.why_word why }
     ensures short { length result.now ≤ 7 }
 {
     match why {
-        Why::Form => b"form",
+        FirstWhy::Form => b"form",
     }
 }
 
@@ -43,7 +43,7 @@ fn tell<O: Sink>(out: &mut O, line: &[u8])
 }
 
 /// Writes that a script's line is refused.
-fn tell_bad_script<O: Sink>(out: &mut O, line: u64, why: Why)
+fn tell_bad_script<O: Sink>(out: &mut O, line: u64, why: FirstWhy)
     ensures told { Tells (O.held out.old) (O.held out.new) (Rattle.usbnet_run.specs.Command.bad_script_line line why) }
     ensures never_falls { O.faults out.old ≤ O.faults out.new }
 {
@@ -95,13 +95,13 @@ pub fn plain_command<I: Source, O: Sink>(
             return 1;
         }
     };
-    let script = match un_script::read(alloc, &text) {
+    let script = match un_script::read_first_form(alloc, &text) {
         Ok(script) => script,
-        Err(ScriptError::BadLine { line, why }) => {
+        Err(FirstError::BadLine { line, why }) => {
             tell_bad_script(out, line, why);
             return 5;
         }
-        Err(ScriptError::NoMemory) => {
+        Err(FirstError::NoMemory) => {
             tell(out, b"no memory\n");
             return 1;
         }

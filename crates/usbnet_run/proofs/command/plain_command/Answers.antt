@@ -31,12 +31,12 @@ returns-in-Err-NoMemory-clause-ends g c =
     let r = c.in-Err-NoMemory.ensures.given in
     (r.0, r.1, Ends.no_memory serial c.tell-in-Err-NoMemory.ensures.told)
 
-pub returns-in-Err-NoMemory-read-clause-ends : goal.returns-in-Err-NoMemory-read-clause-ends
-returns-in-Err-NoMemory-read-clause-ends g c =
+pub returns-in-Err-NoMemory-read_first_form-clause-ends : goal.returns-in-Err-NoMemory-read_first_form-clause-ends
+returns-in-Err-NoMemory-read_first_form-clause-ends g c =
     let yes_it_is : c.is_serial.result ≡ true = search rules in
     let serial = sym c.is_serial.ensures ∙ yes_it_is in
     let r = c.in-Ok.ensures.given in
-    (r.0, r.1, Ends.no_memory serial c.tell-in-Err-NoMemory-read.ensures.told)
+    (r.0, r.1, Ends.no_memory serial c.tell-in-Err-NoMemory-read_first_form.ensures.told)
 
 pub returns-in_default-clause-ends : goal.returns-in_default-clause-ends
 returns-in_default-clause-ends g c =
@@ -64,8 +64,8 @@ returns-in-Ok-write_trace-clause-ends g c =
     let r = c.in-Ok.ensures.given in (
       r.0,
       r.1,
-      Ends.done c.in-Ok-read.script c.in-Ok-run_script.journal.history serial (r.2.2, r.2.1)
-          (script_given _ _ _ _ c.deref.ensures.value r.2.0 c.in-Ok-read.ensures) c.in-Ok-write_trace.ensures.written,
+      Ends.done c.in-Ok-read_first_form.script c.in-Ok-run_script.journal.history serial (r.2.2, r.2.1)
+          (script_given _ _ _ _ c.deref.ensures.value r.2.0 c.in-Ok-read_first_form.ensures) c.in-Ok-write_trace.ensures.written,
     )
 
 pub returns-clause-ends : goal.returns-clause-ends
@@ -75,9 +75,9 @@ returns-clause-ends g c =
     let r = c.in-Ok.ensures.given in (
       r.0,
       r.1,
-      Ends.write_fault c.in-Ok-read.script c.in-Ok-run_script.journal.history serial (r.2.2, r.2.1)
-          (script_given _ _ _ _ c.deref.ensures.value r.2.0 c.in-Ok-read.ensures) c.in-Err.ensures.stopped,
+      Ends.write_fault c.in-Ok-read_first_form.script c.in-Ok-run_script.journal.history serial (r.2.2, r.2.1)
+          (script_given _ _ _ _ c.deref.ensures.value r.2.0 c.in-Ok-read_first_form.ensures) c.in-Err.ensures.stopped,
     )
 
 pub run_script-requires : goal.run_script-requires
-run_script-requires g c = script_in_range _ _ c.in-Ok-read.ensures
+run_script-requires g c = script_in_range _ _ c.in-Ok-read_first_form.ensures
