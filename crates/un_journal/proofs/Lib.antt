@@ -38,3 +38,9 @@ pub mod TextLemmas
 pub mod WroteLemmas
 pub mod TextCuts
 pub mod TextReads
+pub mod ReadNumbers
+pub mod ReadWords
+pub mod ReadFields
+pub mod ReadLines
+pub mod ReadEntries
+pub mod ReadTraces

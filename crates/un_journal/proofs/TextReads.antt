@@ -163,7 +163,7 @@ flag_plain false = refl
 short_plain : (n : ℕ) → n < 2 ^ 32 → is_plain (decimal n) ≡ true
 short_plain n h = decimal_plain n (wide n h)
 
-name_plain : (line : Line) → is_plain (name_of line) ≡ true
+pub name_plain : (line : Line) → is_plain (name_of line) ≡ true
 name_plain (Took l s) = refl
 name_plain (Refused l s why) = refl
 name_plain (Made l k a b) = refl
@@ -213,13 +213,13 @@ bytes_plain (b ∷ bytes) h = onto (encode_lower (b ∷ bytes)) [] (hex_plain (b
 
 -- ENTRIES
 
-abbrev all_words : Entry → List (List ℕ)
+abbrev pub all_words : Entry → List (List ℕ)
 all_words (line, bytes) = words_of line ++ bytes_words bytes
 
-entry_plain : (e : Entry) → IsEntry e → are_plain (all_words e) ≡ true
+pub entry_plain : (e : Entry) → IsEntry e → are_plain (all_words e) ≡ true
 entry_plain (line, bytes) is = words_plain line (bytes_words bytes) is.0 (bytes_plain bytes is.3)
 
-shape : (e : Entry) (x : List ℕ) → entry_text e ++ x ≡ name_of e.0 ++ tail_of (all_words e) x
+pub shape : (e : Entry) (x : List ℕ) → entry_text e ++ x ≡ name_of e.0 ++ tail_of (all_words e) x
 unfolding entry_text
 shape (line, bytes) x =
     let n = name_of line in
@@ -263,12 +263,12 @@ no_end (Control c f) h = not_end (codes "did") refl h
 no_end (Settled t1 r1 t2 r2) h = not_end (codes "settled") refl h
 
 -- the line "end" begins no entry's text
-ends_alone : (f : Entry) (y : List ℕ) → codes "end\n" ≡ entry_text f ++ y → ⊥
+pub ends_alone : (f : Entry) (y : List ℕ) → codes "end\n" ≡ entry_text f ++ y → ⊥
 ends_alone f y h =
     let m = cut_tail (codes "end") (name_of f.0) [] (all_words f) [] y refl (name_plain f.0) (h ∙ shape f y) in
     no_end f.0 m.0
 
-abbrev body : History → List ℕ
+abbrev pub body : History → List ℕ
 body history = flat_map entry_text history ++ codes "end\n"
 
 bodies : (g h : History) → AreEntries g → AreEntries h → body g ≡ body h → g ≡ h
@@ -280,7 +280,7 @@ bodies (f ∷ g) (k ∷ h) a b e =
     (sym (append_assoc (entry_text f) (flat_map entry_text g) (codes "end\n")) ∙ e ∙ append_assoc (entry_text k) (flat_map entry_text h) (codes "end\n")) in
     two (λ x xs. x ∷ xs) m.0 (bodies g h a.1 b.1 m.1)
 
-cancel : (p x y : List ℕ) → p ++ x ≡ p ++ y → x ≡ y
+pub cancel : (p x y : List ℕ) → p ++ x ≡ p ++ y → x ≡ y
 cancel [] x y e = e
 cancel (c ∷ p) x y e = cancel p x y (let inner : p ++ x ≡ p ++ y = cc in inner)
 

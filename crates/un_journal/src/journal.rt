@@ -130,6 +130,20 @@ impl Journal {
     }
 }
 
+/// A history of lines and bytes that were kept, without room for more.
+pub fn journal_of(lines: Vec<Stored>, bytes: Vec<u8>) -> Journal
+    requires stored { All (IsStored (vec_len bytes)) lines.items }
+    requires entries { AreEntries (entries_of bytes.items lines.items) }
+    ensures { result.history ≡ entries_of bytes.items lines.items }
+{
+    Journal {
+        lines,
+        bytes,
+        spare_lines: 0,
+        spare_bytes: 0,
+    }
+}
+
 /// A line and the bytes that it stands beside.
 fn entry<'a>(lines: &[Stored], bytes: &'a [u8], index: usize) -> (Line, &'a [u8])
     requires within { index < length lines.now }

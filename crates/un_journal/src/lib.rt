@@ -14,6 +14,9 @@ mod machine;
 #[cfg(test)]
 mod tests;
 mod texts;
+mod trace_lines;
+mod trace_reader;
+mod trace_words;
 mod writer;
 
 pub use actions::{Action, Answer};
@@ -31,4 +34,5 @@ pub use laws::{
 pub use lines::Line;
 pub use machine::{Flight, Machine, Transfer};
 pub use texts::{entries_are_read, histories_are_read};
+pub use trace_reader::{TraceError, read_trace};
 pub use writer::{put, reserve, write_hex, write_trace};

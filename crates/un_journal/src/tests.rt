@@ -1,6 +1,7 @@
 //! A small history and its text, and a write that fails in mid-stream.
 
 use super::*;
+use std::alloc::Global;
 use std::test::Fail;
 use un_frame::Lane;
 use un_io::{MemSink, WriteFault};
@@ -32,5 +33,39 @@ fn a_history_is_kept_and_written(rt: HostRuntime) -> Result<(), Fail> {
     let mut stopping = MemSink::make(rt.alloc(), 99, 8, Vec::from_slice(rt.alloc(), &[1])?)?;
     assert_eq!(rt; write_trace(&mut stopping, &journal), Err(WriteFault));
     assert_eq!(rt; stopping.held(), b"trace\npo".as_slice());
+    Ok(())
+}
+
+/// Each kind of line once.
+const EACH_KIND: &[u8] =
+    b"trace\ntook out 3\nrefused in 0 filtered\nmade out 0 0 1 0aff\nwaited out\nposted in\nflying out 0\nlanded out 0\nfailed in 18446744073709551615 halt\nmarked in 1 4294967295\ncut out 7 2\ndropped in 10 20 0\ntxhome out 0\nopened out 0\ngave out 0 00\nrecalled in\ncleared out\ndid 12 1\nsettled 1 2 3 64\nend\n";
+
+#[test]
+fn each_kind_of_line_is_read_back(rt: HostRuntime) -> Result<(), Fail> {
+    let journal = read_trace(rt.alloc(), EACH_KIND)?;
+    assert_eq!(rt; journal.len(), 18);
+    assert_eq!(rt; journal.bytes(2), [0x0a, 0xff].as_slice());
+    let mut sink = MemSink::make(rt.alloc(), 999, 999, Vec::new(rt.alloc()))?;
+    assert_eq!(rt; write_trace(&mut sink, &journal), Ok(()));
+    assert_eq!(rt; sink.held(), EACH_KIND);
+    Ok(())
+}
+
+/// The line at which a text is refused, or 0.
+fn refused_at(alloc: Global, text: &[u8]) -> u64 {
+    match read_trace(alloc, text) {
+        Err(TraceError::BadTrace { line }) => line,
+        _ => 0,
+    }
+}
+
+#[test]
+fn other_texts_are_refused(rt: HostRuntime) -> Result<(), Fail> {
+    assert_eq!(rt; refused_at(rt.alloc(), b"trace\ngave out 0\nend\n"), 2);
+    assert_eq!(rt;
+        refused_at(rt.alloc(), b"trace\nposted out\ntook out 00\nend\n"),
+        3
+    );
+    assert_eq!(rt; refused_at(rt.alloc(), b"trace\nend\n\n"), 3);
     Ok(())
 }

@@ -1,0 +1,98 @@
+-- The words of a line, cut at its spaces, and put together again.
+use Rattle.std.proofs.Common.{ℕ, zero, suc, ◌<◌, ◌≡◌, Bool, true, false, ◌==◌, ◌++◌, if◌then◌else◌, List, [], ◌∷◌, None, length, take, drop, slice_index, refl, sym, ap, ◌∙◌, arith}
+use Rattle.std.proofs.lemmas.Bool.{eqb-true, ltb-true}
+use Rattle.std.proofs.lemmas.Bool.Decides.{nat_tests}
+use Rattle.un_journal.specs.Text.{spaced}
+use Rattle.un_journal.specs.TraceWords.{words_in, onto_first}
+use Rattle.un_journal.specs.TraceLines.{line_of, line_in}
+use Rattle.un_journal.proofs.TextCuts.{is_glyph, is_plain, are_plain, left, right}
+
+not_true : (b : Bool) → (b ≡ true → ⊥) → b ≡ false
+not_true true h = absurd (h refl)
+not_true false h = refl
+
+pub words_cut : (xs : List ℕ) (i : ℕ) → i < length xs → ((k : ℕ) → k < i → (slice_index xs k == 32) ≡ true → ⊥) → (slice_index xs i == 32) ≡ true
+    → words_in xs ≡ take i xs ∷ words_in (drop (suc i) xs)
+unfolding words_in
+words_cut [] i within before here = absurd (omega arith)
+words_cut (c ∷ cs) zero within before here = rw here refl
+words_cut (c ∷ cs) (suc i) within before here =
+    let other = not_true (c == 32) (before 0 (omega arith)) in
+    let next = words_cut cs i (omega arith) (λ k h. before (suc k) (omega arith)) here in
+    rw (other, next) refl
+
+pub words_whole : (xs : List ℕ) → ((k : ℕ) → k < length xs → (slice_index xs k == 32) ≡ true → ⊥) → words_in xs ≡ xs ∷ []
+unfolding words_in
+words_whole [] none = refl
+words_whole (c ∷ cs) none =
+    let other = not_true (c == 32) (none 0 (omega arith)) in
+    let next = words_whole cs (λ k h. none (suc k) (omega arith)) in
+    rw (other, next) refl
+
+pub heard : (text : List ℕ) (words : List (List ℕ)) → words_in text ≡ words → line_in text ≡ line_of words
+unfolding line_in
+heard text words e = rw e refl
+
+onto_some : (c : ℕ) (ps : List (List ℕ)) → (w : List ℕ) × (ws : List (List ℕ)) × (onto_first c ps ≡ w ∷ ws)
+onto_some c [] = (c ∷ [], [], refl)
+onto_some c (p ∷ ps) = (c ∷ p, ps, refl)
+
+-- each line has a word, even if it is empty
+pub words_some : (line : List ℕ) → (w : List ℕ) × (ws : List (List ℕ)) × (words_in line ≡ w ∷ ws)
+unfolding words_in
+words_some [] = ([], [], refl)
+words_some (c ∷ cs) = pick (c == 32) c cs where
+  pick : (b : Bool) (c : ℕ) (cs : List ℕ) → (w : List ℕ) × (ws : List (List ℕ)) × ((if b then [] ∷ words_in cs else onto_first c (words_in cs)) ≡ w ∷ ws)
+  pick true c cs = ([], words_in cs, refl)
+  pick false c cs = onto_some c (words_in cs)
+
+-- no line has more than six words
+pub too_many : (a b c d e f rest : List ℕ) → line_of (a ∷ b ∷ c ∷ d ∷ e ∷ f ∷ words_in rest) ≡ None
+too_many a b c d e f rest = let some = words_some rest in rw some.2 refl
+
+-- TOGETHER AGAIN
+
+head_same : (v w : List ℕ) (vs ws : List (List ℕ)) → v ∷ vs ≡ w ∷ ws → v ≡ w
+head_same v w vs ws e = cc
+
+rest_same : (v w : List ℕ) (vs ws : List (List ℕ)) → v ∷ vs ≡ w ∷ ws → vs ≡ ws
+rest_same v w vs ws e = cc
+
+pub joined : (text w : List ℕ) (ws : List (List ℕ)) → words_in text ≡ w ∷ ws → w ++ spaced ws ≡ text
+unfolding words_in
+joined [] w ws h = let a = head_same [] w [] ws h in let b = rest_same [] w [] ws h in rw (← a, ← b) refl
+joined (c ∷ cs) w ws h = pick (c == 32) refl h (joined cs)
+  where
+    put : (v : List ℕ) (vs : List (List ℕ)) (rest : List (List ℕ)) → words_in cs ≡ v ∷ vs → rest ≡ onto_first c (words_in cs) → rest ≡ (c ∷ v) ∷ vs
+    put v vs rest e f = rw e at f
+
+    pick : (b : Bool) → (c == 32) ≡ b → (if b then [] ∷ words_in cs else onto_first c (words_in cs)) ≡ w ∷ ws → ((v : List ℕ) (vs : List (List ℕ)) → words_in cs ≡ v ∷ vs → v ++ spaced vs ≡ cs) → w ++ spaced ws ≡ c ∷ cs
+    pick true is e rec =
+        let some = words_some cs in
+        let a = head_same [] w (words_in cs) ws e in
+        let b = sym some.2 ∙ rest_same [] w (words_in cs) ws e in
+        let inner = rec some.0 some.1 some.2 in
+        let space : c ≡ 32 = eqb-true c 32 is in
+        rw (← a, ← b, space) (ap (λ t. 32 ∷ t) inner)
+    pick false is e rec =
+        let some = words_some cs in
+        let whole = put some.0 some.1 (w ∷ ws) some.2 (sym e) in
+        let a = head_same w (c ∷ some.0) ws some.1 whole in
+        let b = rest_same w (c ∷ some.0) ws some.1 whole in
+        rw (a, b) (ap (λ t. c ∷ t) (rec some.0 some.1 some.2))
+
+no_space : (c : ℕ) → is_glyph c ≡ true → (c == 32) ≡ false
+no_space c above = let over = ltb-true 32 c above in grind (arith, nat_tests)
+
+word_then : (w tail : List ℕ) (ws : List (List ℕ)) → is_plain w ≡ true → words_in tail ≡ [] ∷ ws → words_in (w ++ tail) ≡ w ∷ ws
+unfolding words_in
+word_then [] tail ws p e = e
+word_then (c ∷ w) tail ws p e = rw (no_space c (left (is_glyph c) (is_plain w) p), word_then w tail ws (right (is_glyph c) (is_plain w) p) e) refl
+
+spaced_words : (ws : List (List ℕ)) → are_plain ws ≡ true → words_in (spaced ws) ≡ [] ∷ ws
+unfolding words_in
+spaced_words [] p = refl
+spaced_words (w ∷ ws) p = ap (λ vs. [] ∷ vs) (word_then w (spaced ws) ws (left (is_plain w) (are_plain ws) p) (spaced_words ws (right (is_plain w) (are_plain ws) p)))
+
+pub parted : (w : List ℕ) (ws : List (List ℕ)) → is_plain w ≡ true → are_plain ws ≡ true → words_in (w ++ spaced ws) ≡ w ∷ ws
+parted w ws p q = word_then w (spaced ws) ws p (spaced_words ws q)
