@@ -1,0 +1,73 @@
+#!/usr/bin/env python3
+"""Times `usbnet decode` on transfers of 16 MiB beside a plain hex dump and a plain copy of the same bytes.
+
+Needs the proved build (./usbnet --build) and coreutils' basenc and cat. Prints, for each transfer, its size, the best of five times
+of the program, of the dump and of the copy, and the program's peak memory. What the program prints is compared with the text that
+this script makes of the same frames.
+"""
+import os
+import struct
+import sys
+import tempfile
+
+from serial import BINARY, HEADER, best
+
+MOST = 16_777_216
+PAIRS = 8188  # of one table of 65,528 bytes, but for its last
+
+
+def frames_of(count, length):
+    header = bytes.fromhex(HEADER)
+    return [header + (b"%08x" % index + bytes(length - 22)) for index in range(count)]
+
+
+def eem(frames):
+    return b"".join(struct.pack("<H", len(frame) + 4) + frame + b"\xde\xad\xbe\xef" for frame in frames)
+
+
+def ncm32(frames):
+    """A block with its tables behind its frames."""
+    places, end = [], 16
+    for frame in frames:
+        places.append((end, len(frame)))
+        end += len(frame)
+    end += -end % 4
+    first, tables = end, []
+    for front in range(0, len(places), PAIRS):
+        pairs = places[front : front + PAIRS]
+        size = 16 + 8 * (len(pairs) + 1)
+        end += size
+        following = end if front + PAIRS < len(places) else 0
+        tables.append(b"ncm0" + struct.pack("<HHII", size, 0, following, 0) + b"".join(struct.pack("<II", *pair) for pair in pairs) + bytes(8))
+    head = b"ncmh" + struct.pack("<HHII", 16, 0, end, first)
+    body = head + b"".join(frames)
+    return body + bytes(first - len(body)) + b"".join(tables)
+
+
+def text_of(name, frames):
+    lines = "".join(f"frame {index} {len(frame)} {frame.hex()}\n" for index, frame in enumerate(frames))
+    return f"class {name}\nframes {len(frames)}\n{lines}commands 0\n"
+
+
+def main():
+    if not os.access(BINARY, os.X_OK):
+        sys.exit("no proved build: run ./usbnet --build first")
+    with tempfile.TemporaryDirectory() as room:
+        transfer, taken = (os.path.join(room, name) for name in ("transfer", "taken"))
+        for name, make, extra in [("ncm32", ncm32, 8), ("eem", eem, 6)]:
+            for length in (1514, 60):
+                frames = frames_of((MOST - 4096) // (length + extra), length)
+                bytes_given = make(frames)
+                assert len(bytes_given) <= MOST
+                with open(transfer, "wb") as out:
+                    out.write(bytes_given)
+                spent, peak = best([BINARY, "decode", name], transfer, taken)
+                with open(taken) as given:
+                    assert given.read() == text_of(name, frames), "another text"
+                dump, _ = best(["basenc", "--base16", "-w0"], transfer, taken)
+                copy, _ = best(["cat"], transfer, taken)
+                print(f"{name}, {len(frames):,} frames of {length:,} bytes: {len(bytes_given):,} bytes in; decode {spent * 1000:.0f} ms, {peak / 1024:.0f} MB; hex dump {dump * 1000:.0f} ms; copy {copy * 1000:.0f} ms")
+
+
+if __name__ == "__main__":
+    main()
