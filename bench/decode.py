@@ -5,6 +5,8 @@ Needs the proved build (./usbnet --build) and coreutils' basenc and cat. Prints,
 of the program, of the dump and of the copy, and the program's peak memory. What the program prints is compared with the text that
 this script makes of the same frames.
 """
+import filecmp
+import multiprocessing
 import os
 import struct
 import sys
@@ -49,24 +51,37 @@ def text_of(name, frames):
     return f"class {name}\nframes {len(frames)}\n{lines}commands 0\n"
 
 
+def write_files(name, length, transfer, wanted):
+    """Writes a transfer of frames of this length, and the text that it is decoded to."""
+    frames = frames_of((MOST - 4096) // (length + CLASSES[name][1]), length)
+    with open(transfer, "wb") as out:
+        out.write(CLASSES[name][0](frames))
+    with open(wanted, "w") as out:
+        out.write(text_of(name, frames))
+
+
+# how a transfer is made, and its bytes for each frame beside the frame
+CLASSES = {"ncm32": (ncm32, 8), "eem": (eem, 6)}
+
+
 def main():
     if not os.access(BINARY, os.X_OK):
         sys.exit("no proved build: run ./usbnet --build first")
     with tempfile.TemporaryDirectory() as room:
-        transfer, taken = (os.path.join(room, name) for name in ("transfer", "taken"))
-        for name, make, extra in [("ncm32", ncm32, 8), ("eem", eem, 6)]:
+        transfer, wanted, taken = (os.path.join(room, name) for name in ("transfer", "wanted", "taken"))
+        for name in CLASSES:
             for length in (1514, 60):
-                frames = frames_of((MOST - 4096) // (length + extra), length)
-                bytes_given = make(frames)
-                assert len(bytes_given) <= MOST
-                with open(transfer, "wb") as out:
-                    out.write(bytes_given)
+                # in a process of its own: a child's peak memory begins with its parent's
+                maker = multiprocessing.Process(target=write_files, args=(name, length, transfer, wanted))
+                maker.start()
+                maker.join()
+                size = os.path.getsize(transfer)
                 spent, peak = best([BINARY, "decode", name], transfer, taken)
-                with open(taken) as given:
-                    assert given.read() == text_of(name, frames), "another text"
+                if not filecmp.cmp(taken, wanted, shallow=False):
+                    sys.exit(f"another text of {name}")
                 dump, _ = best(["basenc", "--base16", "-w0"], transfer, taken)
                 copy, _ = best(["cat"], transfer, taken)
-                print(f"{name}, {len(frames):,} frames of {length:,} bytes: {len(bytes_given):,} bytes in; decode {spent * 1000:.0f} ms, {peak / 1024:.0f} MB; hex dump {dump * 1000:.0f} ms; copy {copy * 1000:.0f} ms")
+                print(f"{name}, frames of {length:,} bytes: {size:,} bytes in; decode {spent * 1000:.0f} ms, {peak / 1024:.0f} MB; hex dump {dump * 1000:.0f} ms; copy {copy * 1000:.0f} ms")
 
 
 if __name__ == "__main__":
