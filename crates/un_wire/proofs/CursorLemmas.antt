@@ -1,19 +1,19 @@
 -- The parts of a transfer are the grammar's frames, and a cursor stands at the one of its index.
-use Rattle.std.proofs.Common.{◌≡◌, ◌↔◌, ℕ, ◌+◌, ◌-◌, ◌<◌, ◌≤◌, Bool, true, false, IsTrue, List, [], ◌∷◌, ◌++◌, length, map, drop, Option, Some, None, Result, Ok, Err, IfOk, IfSome, IfNone, slice_get, unwrap_or, get_or, refl, sym, ap, ◌∙◌, arith, append_assoc, length-append}
+use Rattle.std.proofs.Common.{◌≡◌, ◌↔◌, ℕ, ◌+◌, ◌<◌, true, false, IsTrue, List, [], ◌∷◌, ◌++◌, length, map, drop, Option, Some, None, Result, Ok, Err, IfOk, IfSome, IfNone, slice_get, unwrap_or, get_or, refl, sym, ap, ◌∙◌, arith, append_assoc, length-append}
 use Rattle.std.proofs.Math.Seq.{get_or-append_seam}
 use Rattle.std.proofs.lemmas.Bool.{false≢true}
 use Rattle.std.proofs.lemmas.Option.{slice_get_read, slice_get-get_or}
 use Rattle.un_frame.specs.declared.params.Class.{Class}
 use Rattle.un_frame.specs.declared.params.Class.TheVariants.{Ecm, Eem, Ncm16, Ncm32}
-use Rattle.un_frame.specs.Bytes.{Place, slice_at}
+use Rattle.un_frame.specs.Bytes.{slice_at}
 use Rattle.un_frame.specs.Laws.{PartsAreTheFrames, ReadingIsOne}
-use Rattle.un_frame.specs.Parts.{ReadsAs, datagram_of, places_as}
+use Rattle.un_frame.specs.Parts.{datagram_of}
 use Rattle.un_frame.specs.Wire.{Reads}
 use Rattle.un_frame.proofs.PartLemmas.{ecm_parts, eem_parts, ncm16_parts, ncm32_parts}
 use Rattle.un_frame.proofs.WireLemmas.{ecm_one, eem_one, ncm16_one, ncm32_one}
 use Rattle.un_wire.specs.declared.cursor.Cursor.{Cursor}
 use Rattle.un_wire.specs.Cursors.{IsAt, parts_of, part_count, part_index}
-use Rattle.un_wire.specs.Laws.{PartsAre, PartsAreFrames, CountsAreParts, ReadingsAreOne}
+use Rattle.un_wire.specs.Laws.{PartsAreFrames, CountsAreParts, ReadingsAreOne}
 use Rattle.un_wire.specs.Places.{IsFirst, IsSoundAt, class_at, commands_in, parts_at}
 
 places_are : (class : Class) → PartsAreTheFrames class

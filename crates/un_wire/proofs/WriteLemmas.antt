@@ -1,18 +1,19 @@
 -- What the codecs write, by class.
-use Rattle.std.proofs.Common.{◌≡◌, ℕ, ◌+◌, ◌≤◌, Bool, true, false, if◌then◌else◌, List, [], ◌∷◌, ◌++◌, length, map, Option, Some, None, option_to_list, unwrap_or, refl, sym, ap, ◌∙◌, arith, append-nil, length-append}
+use Rattle.std.proofs.Common.{◌≡◌, ℕ, ◌+◌, ◌≤◌, ◌==◌, Bool, true, false, if◌then◌else◌, List, [], ◌∷◌, ◌++◌, length, map, Option, Some, None, option_to_list, unwrap_or, refl, sym, ap, ◌∙◌, arith, append-nil, length-append}
 use Rattle.std.proofs.lemmas.List.{length-map}
 use Rattle.std.specs.List.{concat}
 use Rattle.un_frame.specs.declared.params.Class.{Class}
 use Rattle.un_frame.specs.declared.params.Class.TheVariants.{Ecm, Eem, Ncm16, Ncm32}
 use Rattle.un_frame.specs.declared.params.Params.{Params}
 use Rattle.un_frame.specs.Eem.{Data, Empty, packet_bytes, eem_form}
-use Rattle.un_frame.specs.Ntb.{Format}
+use Rattle.un_frame.specs.Ntb.{Format, ntb16, ntb32}
 use Rattle.un_frame.specs.NtbForm.{IsOpenBlock, Layout, block_fits, datagrams_end, ntb_form, open_block}
 use Rattle.un_frame.specs.Params.{layout_of}
 use Rattle.un_frame.specs.Wire.{IsOpen, capacity_as, capacity_of, form, form_as, open_as, open_form}
 use Rattle.un_frame.proofs.NtbFormLemmas.{closed_fits_within, length-number_bytes}
 use Rattle.un_frame.proofs.NtbFormReads.{IsWritable, length-block}
 use Rattle.un_eem.specs.Transfer.{data_packets}
+use Rattle.un_ntb.specs.Formats.{class_of, format_of}
 
 -- the bytes of an open transfer
 pub open_ecm : (p : Params) (sizes bytes : List ℕ) (frames : List (List ℕ)) → p.class ≡ Ecm → IsOpen p sizes bytes frames → bytes ≡ concat frames
@@ -89,8 +90,18 @@ ntb_within f p l serial sizes closed frames known same fits lengths is =
     let within = block_within f p serial frames known (ap (λ (ns : List ℕ). block_fits f (layout_of p) p.block p.datagrams ns) lengths ∙ fits) in
     omega (arith, whole, within)
 
-pub capacity_ncm16 : (p : Params) (n : ℕ) → p.class ≡ Ncm16 → n ≤ p.block → n ≤ capacity_of p
-capacity_ncm16 p n is within = let capacity = ap (λ (class : Class). capacity_as class p) is in omega (arith, capacity, within)
+-- whichever width its blocks have
+block_capacity : (width : ℕ) (p : Params) → p.class ≡ class_of width → capacity_of p ≡ p.block
+block_capacity width p is = ap (λ (class : Class). capacity_as class p) is ∙ of_both (width == 2) where
+  of_both : (b : Bool) → capacity_as (if b then Ncm16 else Ncm32) p ≡ p.block
+  of_both true = refl
+  of_both false = refl
 
-pub capacity_ncm32 : (p : Params) (n : ℕ) → p.class ≡ Ncm32 → n ≤ p.block → n ≤ capacity_of p
-capacity_ncm32 p n is within = let capacity = ap (λ (class : Class). capacity_as class p) is in omega (arith, capacity, within)
+pub capacity_ncm : (width : ℕ) (p : Params) (n : ℕ) → p.class ≡ class_of width → n ≤ p.block → n ≤ capacity_of p
+capacity_ncm width p n is within = let capacity = block_capacity width p is in omega (arith, capacity, within)
+
+pub open_ncm : (width : ℕ) (p : Params) (frames : List (List ℕ)) → p.class ≡ class_of width → open_form p frames ≡ open_block (format_of width) (layout_of p) frames
+open_ncm width p frames is = ap (λ (class : Class). open_as class p frames) is ∙ of_both (width == 2) where
+  of_both : (b : Bool) → open_as (if b then Ncm16 else Ncm32) p frames ≡ open_block (if b then ntb16 else ntb32) (layout_of p) frames
+  of_both true = refl
+  of_both false = refl

@@ -1,14 +1,13 @@
 -- What the codecs of the classes keep, and what callers see of it.
-use Rattle.std.specs.Prelude.{◌≡◌, ℕ, ◌<◌, ◌≤◌, List, length, option_to_list, unwrap_or, true}
-use Rattle.un_frame.specs.declared.params.Class.TheVariants.{Ecm, Eem, Ncm16, Ncm32}
-use Rattle.un_frame.specs.Ntb.{ntb16, ntb32}
+use Rattle.std.specs.Prelude.{◌≡◌, ℕ, ◌<◌, ◌≤◌, length, option_to_list, unwrap_or, true}
+use Rattle.un_frame.specs.declared.params.Class.TheVariants.{Ecm, Eem}
 use Rattle.un_frame.specs.NtbForm.{block_fits}
 use Rattle.un_frame.specs.Params.{layout_of}
 use Rattle.un_frame.specs.Wire.{Coding}
 use Rattle.un_wire.specs.declared.ecm.EcmWire.TheInside as ecm
 use Rattle.un_wire.specs.declared.eem.EemWire.TheInside as eem
-use Rattle.un_wire.specs.declared.ntb16.Ntb16Wire.TheInside as ntb16_wire
-use Rattle.un_wire.specs.declared.ntb32.Ntb32Wire.TheInside as ntb32_wire
+use Rattle.un_ntb.specs.Formats.{class_of, format_of}
+use Rattle.un_wire.specs.declared.ntb.NtbWire.TheInside as ntb_wire
 
 -- a codec of ECM: the open transfer has at most one frame, of at most a segment
 abbrev pub ecm_coding : ecm.Inside → Coding
@@ -28,24 +27,13 @@ pub record IsEem (w : eem.Inside) : Type 0 where
   pub packet : 1 ≤ w.params.packet
   pub fits : unwrap_or w.held 0 ≤ w.params.segment
 
--- a codec of NCM with fields of 16 bits: its writer has the parameters, and the open block's frames fit
-abbrev pub ntb16_coding : ntb16_wire.Inside → Coding
-ntb16_coding w = record { params = w.params; sizes = w.writer.sizes; is_open = w.writer.is_open }
+-- a codec of NCM, by the bytes of an index: its writer has the parameters, and the open block's frames fit
+abbrev pub ntb_coding : {width : ℕ} → ntb_wire.Inside width → Coding
+ntb_coding w = record { params = w.params; sizes = w.writer.sizes; is_open = w.writer.is_open }
 
-pub record IsNtb16 (w : ntb16_wire.Inside) : Type 0 where
-  pub class : w.params.class ≡ Ncm16
+pub record IsNtb (width : ℕ) (w : ntb_wire.Inside width) : Type 0 where
+  pub class : w.params.class ≡ class_of width
   pub layout : w.writer.layout ≡ layout_of w.params
   pub block : w.writer.block ≡ w.params.block
   pub limit : w.writer.limit ≡ w.params.datagrams
-  pub fits : 0 < length w.writer.sizes → block_fits ntb16 (layout_of w.params) w.params.block w.params.datagrams w.writer.sizes ≡ true
-
--- and with fields of 32 bits
-abbrev pub ntb32_coding : ntb32_wire.Inside → Coding
-ntb32_coding w = record { params = w.params; sizes = w.writer.sizes; is_open = w.writer.is_open }
-
-pub record IsNtb32 (w : ntb32_wire.Inside) : Type 0 where
-  pub class : w.params.class ≡ Ncm32
-  pub layout : w.writer.layout ≡ layout_of w.params
-  pub block : w.writer.block ≡ w.params.block
-  pub limit : w.writer.limit ≡ w.params.datagrams
-  pub fits : 0 < length w.writer.sizes → block_fits ntb32 (layout_of w.params) w.params.block w.params.datagrams w.writer.sizes ≡ true
+  pub fits : 0 < length w.writer.sizes → block_fits (format_of width) (layout_of w.params) w.params.block w.params.datagrams w.writer.sizes ≡ true

@@ -1,6 +1,6 @@
 //! A walk over the parts of a transfer that keeps no borrow of its bytes.
 
-ghost use Rattle.std.specs.Prelude.{◌≡◌, ◌∷◌, [], List, ℕ, IfNone, IfOk, IfSome, None, drop};
+ghost use Rattle.std.specs.Prelude.{◌≡◌, ◌∷◌, ◌<◌, ◌^◌, [], List, ℕ, IfNone, IfOk, IfSome, None, drop, length};
 ghost use Rattle.un_frame.specs.Fault.{fault_in};
 ghost use Rattle.un_frame.specs.Wire.{fault_of};
 ghost use Rattle.un_wire.specs.Places.{IsFirst, IsSoundAt, class_at, commands_in, parts_at};
@@ -102,4 +102,19 @@ pub(crate) fn commands(class: Class, bytes: &[u8]) -> u64
         Class::Eem => un_eem::commands(bytes),
         Class::Ecm | Class::Ncm16 | Class::Ncm32 => 0,
     }
+}
+
+/// How many parts a cursor has before it.
+pub(crate) fn count_from(bytes: &[u8], cursor: Cursor) -> u64
+    requires sound { IsSoundAt bytes.now cursor.place }
+    requires few { length (parts_at bytes.now cursor.place) < 2 ^ 64 }
+    ensures { result ≡ length (parts_at bytes.now cursor.place) }
+{
+    let mut cursor = cursor;
+    let mut count = 0;
+    while let Some(_) = cursor.part(bytes) {
+        cursor = cursor.next(bytes);
+        count += 1;
+    }
+    count
 }

@@ -1,7 +1,7 @@
 //! What a builder or a receiver may rest on beside the clauses of the calls; each is the contract of a call that does nothing.
 
 ghost use Rattle.un_frame.specs.Laws.{FormIsRead, OpenBegins, OpenFramesAreFound, OpenGrows, SegmentFits};
-ghost use Rattle.un_wire.specs.Laws.{CountsAreParts, PartsAreFrames, ReadingsAreOne};
+ghost use Rattle.un_wire.specs.Laws.{CountsAreParts, FramesAreFew, PartsAreFrames, ReadingsAreOne};
 
 /// What a codec closes is read as the frames that it was made of, and has at most `capacity` bytes.
 pub fn forms_are_read()
@@ -26,4 +26,9 @@ pub fn parts_are_one()
     ensures one { ReadingsAreOne }
     ensures frames { PartsAreFrames }
     ensures counts { CountsAreParts }
+{}
+
+/// A transfer has one frame in ECM, no more frames than bytes in EEM, and at most 2,097,120 in NCM.
+pub fn frames_are_few()
+    ensures { FramesAreFew }
 {}

@@ -1,10 +1,10 @@
 //! The frames of a transfer, lent one after the other.
 
-ghost use Rattle.std.specs.Prelude.{◌≡◌, ◌∷◌, [], IfNone, IfOk, IfSome};
+ghost use Rattle.std.specs.Prelude.{◌≡◌, ◌∷◌, [], IfNone, IfOk, IfSome, length};
 ghost use Rattle.un_frame.specs.Fault.{fault_in};
 ghost use Rattle.un_frame.specs.Wire.{Reads, fault_of};
 
-use crate::cursor::{Cursor, begin, commands};
+use crate::cursor::{Cursor, begin, commands, count_from};
 use std::marker::Model;
 use un_frame::{Class, Fault};
 
@@ -38,6 +38,13 @@ impl<'a> Parts<'a> {
         let part = self.cursor.part(self.bytes);
         self.cursor = self.cursor.next(self.bytes);
         part
+    }
+
+    /// How many frames are left: a walk over them, which copies none.
+    pub fn count(&self) -> u64
+        ensures { result ≡ length self.now.frames }
+    {
+        count_from(self.bytes, self.cursor)
     }
 
     /// How many commands the whole transfer has, which EEM alone knows.

@@ -68,7 +68,7 @@ fn a_frame_there_and_back(rt: HostRuntime) -> Result<(), Fail> {
         write_one(&mut codec, &mut request, frame);
         assert_eq!(rt; request.bytes().len(), length);
         let mut parts = codec.read(request.bytes()).ok().ok_or("a fault")?;
-        assert_eq!(rt; parts.commands(), 0);
+        assert_eq!(rt; (parts.count(), parts.commands()), (1, 0));
         assert!(rt; parts.next() == Some(frame));
         assert!(rt; parts.next().is_none());
     }

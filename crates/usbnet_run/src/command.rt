@@ -4,9 +4,12 @@ ghost use Rattle.std.specs.Prelude.{◌≡◌, ◌≤◌, ℕ, List, map, length
 ghost use Rattle.std.specs.String.{string_bytes};
 ghost use Rattle.std.specs.Io.KnownBytes.{Consumes};
 ghost use Rattle.un_io.specs.Io.{Rose};
-ghost use Rattle.usbnet_run.specs.Command.{Ends, IsComplete, RefusalsAreExact, Tells, is_serial, why_word, bad_script_line};
+ghost use Rattle.usbnet_run.specs.Command.{DecodeIsComplete, Ends, IsComplete, RefusalsAreExact, why_word, bad_script_line};
+ghost use Rattle.usbnet_run.specs.Refusals.{Tells};
 
+use crate::decode::decode;
 use crate::serial::run_script;
+use crate::words::{Command, command_of};
 use std::alloc::Global;
 use un_io::{ReadError, Sink, Source, read_whole, write_whole};
 use un_journal::{Buffer, number, word, write_trace};
@@ -14,16 +17,6 @@ use un_script::{FirstError, FirstWhy};
 
 /// The most bytes of input.
 const MOST_INPUT: u64 = 16_777_216;
-
-/// Whether the words are the one word `serial`.
-fn is_serial(words: &[String]) -> bool
-    ensures { result ≡ Rattle.usbnet_run.specs.Command.is_serial (map string_bytes words.now) }
-{
-    if words.len() != 1 {
-        return false;
-    }
-    words[0].as_bytes() == b"serial".as_slice()
-}
 
 fn why_word(why: FirstWhy) -> &'static [u8]
     ensures word { result.now ≡ Rattle.usbnet_run.specs.Command.why_word why }
@@ -35,7 +28,7 @@ fn why_word(why: FirstWhy) -> &'static [u8]
 }
 
 /// Writes a refusal's line, or a front of it: the status stays the refusal's own where the write fails.
-fn tell<O: Sink>(out: &mut O, line: &[u8])
+pub(crate) fn tell<O: Sink>(out: &mut O, line: &[u8])
     ensures told { Tells (O.held out.old) (O.held out.new) line.now }
     ensures never_falls { O.faults out.old ≤ O.faults out.new }
 {
@@ -55,13 +48,14 @@ fn tell_bad_script<O: Sink>(out: &mut O, line: u64, why: FirstWhy)
     tell(out, refusal.as_slice());
 }
 
-/// Does the command `serial`: reads a script from the source, runs it, and adds the trace text of its history to the sink. Other words
-/// are bad words. It always returns, and takes all memory before the first byte of output.
+/// Does the command `serial`: reads a script from the source, runs it, and adds the trace text of its history to the sink. Does the
+/// command `decode` with the word of a class: reads one transfer's bytes, and adds the text of its frames. Other words are bad words.
+/// It always returns, and takes all memory before the first byte of output.
 ///
 /// The status is 0 where all output was written; 1 for want of memory; 2 where a read failed; 3 where a write failed, and then the
-/// sink has grown by a front of the output and not all; 4 where the words aren't `serial`, and then no byte was read; 5 where the
-/// bytes are no script; 7 where there were more than 16,777,216 of them. All but 0 and 3 write one line, or a front of it where that
-/// write fails.
+/// sink has grown by a front of the output and not all; 4 where the words are no command, and then no byte was read; 5 where the
+/// bytes are no script; 7 where there were more than 16,777,216 of them; 8 where the class's grammar has no reading of them. All but
+/// 0 and 3 write one line, or a front of it where that write fails.
 pub fn plain_command<I: Source, O: Sink>(
     alloc: Global,
     words: &[String],
@@ -76,10 +70,10 @@ pub fn plain_command<I: Source, O: Sink>(
     ensures read_fault { result ≡ 2 → Rose (I.faults input.old) (I.faults input.new) }
     ensures write_fault { result ≡ 3 → Rose (O.faults out.old) (O.faults out.new) }
 {
-    if !is_serial(words) {
+    let Some(command) = command_of(words) else {
         tell(out, b"bad words\n");
         return 4;
-    }
+    };
     let text = match read_whole(alloc, input, MOST_INPUT) {
         Ok(text) => text,
         Err(ReadError::ReadFault) => {
@@ -95,6 +89,9 @@ pub fn plain_command<I: Source, O: Sink>(
             return 1;
         }
     };
+    if let Command::Decode(class) = command {
+        return decode(out, class, &text);
+    }
     let script = match un_script::read_first_form(alloc, &text) {
         Ok(script) => script,
         Err(FirstError::BadLine { line, why }) => {
@@ -117,9 +114,10 @@ pub fn plain_command<I: Source, O: Sink>(
     }
 }
 
-/// The command does its work wherever it can.
+/// The commands do their work wherever they can.
 pub fn command_is_complete()
-    ensures { IsComplete }
+    ensures serial { IsComplete }
+    ensures decode { DecodeIsComplete }
 {}
 
 /// Each refusal comes exactly where it is due, but for want of memory and a read fault.

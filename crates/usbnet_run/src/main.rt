@@ -2,9 +2,13 @@
 #![tactic(auto)]
 
 mod command;
+mod decode;
+#[cfg(test)]
+mod decode_tests;
 mod serial;
 #[cfg(test)]
 mod tests;
+mod words;
 
 use crate::command::plain_command;
 use std::env;

@@ -9,10 +9,10 @@ use un_io::{MemSink, MemSource};
 const HEADER: &[u8] = b"0200000000020200000000010800";
 
 /// The row's text before and after its frames.
-type Piece<'a> = (&'a [u8], usize);
+pub(crate) type Piece<'a> = (&'a [u8], usize);
 
 /// Pieces of text, each with the digits of a frame of so many bytes behind it.
-fn filled(alloc: Global, pieces: &[Piece]) -> Result<Vec<u8>, AllocError> {
+pub(crate) fn filled(alloc: Global, pieces: &[Piece]) -> Result<Vec<u8>, AllocError> {
     let mut text = Vec::new(alloc);
     for (piece, length) in pieces {
         text.extend_from_slice(piece)?;

@@ -1,4 +1,4 @@
-use Rattle.std.proofs.Common.{◌≡◌, ◌++◌, ◌∷◌, true, [], List, ℕ, length, map, sym, ap, ◌∙◌}
+use Rattle.std.proofs.Common.{◌≡◌, ◌++◌, ◌∷◌, true, [], List, ℕ, length, sym, ap, ◌∙◌}
 use Rattle.un_frame.specs.declared.params.Params.{Params}
 use Rattle.un_frame.specs.Wire.{Coding, IsOpen, open_form}
 use Rattle.un_frame.proofs.FrameLemmas.{open_grows}

@@ -1,5 +1,5 @@
-use Rattle.usbnet_run.proofs.Completeness.{complete}
+use Rattle.usbnet_run.proofs.Completeness.{complete, decode_complete}
 use Rattle.usbnet_run.proofs.command.command_is_complete.Goals as goal
 
 pub returns : goal.returns
-returns c = complete
+returns c = record { serial = complete; decode = decode_complete }

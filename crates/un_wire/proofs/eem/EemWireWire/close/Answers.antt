@@ -1,4 +1,4 @@
-use Rattle.std.proofs.Common.{◌≡◌, ◌%◌, ◌==◌, length, ap, arith}
+use Rattle.std.proofs.Common.{◌%◌, ◌==◌, length, ap, arith}
 use Rattle.un_req.specs.Request.{Buffer}
 use Rattle.un_wire.proofs.WriteLemmas.{eem_room, eem_within}
 use Rattle.un_wire.proofs.eem.EemWireWire.close.Goals as goal

@@ -1,8 +1,8 @@
-//! Transfers of NCM with fields of 16 bits.
+//! Transfers of NCM, in either width of a block's fields.
 
 ghost use Rattle.std.specs.Prelude.{◌≡◌, IfOk};
-ghost use Rattle.un_frame.specs.declared.params.Class.TheVariants.{Ncm16};
 ghost use Rattle.un_frame.specs.Params.{Agree, AreInRange};
+ghost use Rattle.un_ntb.specs.Formats.{class_of};
 ghost use Rattle.un_wire.specs.Codings.{fresh};
 
 use crate::parts::{Parts, read};
@@ -10,33 +10,40 @@ use crate::wire::Wire;
 use std::alloc::{AllocError, Global};
 use std::marker::Model;
 use un_frame::{Class, Fault, Params};
-use un_ntb16::Writer;
+use un_ntb::Writer;
 use un_req::Request;
 
-/// A codec of NCM with fields of 16 bits (NCM 1.0, NTB16): a transfer is a block of frames.
+/// A codec of NCM: a transfer is a block of frames. `WIDTH` is the bytes of an index or a length in the block: 2 for NTB16 and 4
+/// for NTB32 (NCM 1.0, 3.2.1 and 3.2.2).
 #[derive(Drop)]
-pub struct Ntb16Wire {
+pub struct NtbWire<const WIDTH: usize> {
     params: Params,
-    writer: Writer,
+    writer: Writer<WIDTH>,
 }
 
-impl Model for Ntb16Wire {
+/// A codec of NCM with fields of 16 bits (NCM 1.0, NTB16).
+pub type Ntb16Wire = NtbWire<2>;
+
+/// A codec of NCM with fields of 32 bits (NCM 1.0, NTB32).
+pub type Ntb32Wire = NtbWire<4>;
+
+impl<const WIDTH: usize> Model for NtbWire<WIDTH> {
     ghost use Rattle.un_frame.specs.Wire.{Coding};
-    ghost use Rattle.un_wire.specs.Held.{IsNtb16, ntb16_coding};
+    ghost use Rattle.un_wire.specs.Held.{IsNtb, ntb_coding};
 
     ghost Value = { Coding };
 
-    ghost view = { ntb16_coding };
+    ghost view = { λ w. ntb_coding w };
 
-    ghost invariant = { IsNtb16 };
+    ghost invariant = { λ w. IsNtb WIDTH w };
 }
 
-impl Ntb16Wire {
+impl<const WIDTH: usize> NtbWire<WIDTH> {
     /// A codec with no open transfer. It takes the memory for where the frames of a block stand; an error is want of memory.
-    pub(crate) fn make(alloc: Global, params: &Params) -> Result<Ntb16Wire, AllocError>
+    pub(crate) fn make(alloc: Global, params: &Params) -> Result<NtbWire<WIDTH>, AllocError>
         requires in_range { AreInRange params.now }
         requires agree { Agree params.now }
-        requires class { params.now.class ≡ Ncm16 }
+        requires class { params.now.class ≡ class_of WIDTH }
         ensures { IfOk result (λ codec. codec ≡ fresh params.now) }
     {
         let writer = Writer::make(
@@ -47,7 +54,7 @@ impl Ntb16Wire {
             params.remainder,
             params.alignment,
         )?;
-        Ok(Ntb16Wire {
+        Ok(NtbWire {
             params: *params,
             writer,
         })
@@ -61,7 +68,7 @@ impl Ntb16Wire {
     }
 }
 
-impl Wire for Ntb16Wire {
+impl<const WIDTH: usize> Wire for NtbWire<WIDTH> {
     ghost coding = { λ w. w };
 
     fn capacity(&self) -> u32 {
