@@ -38,15 +38,15 @@ one_class asked class other a b = cc
 -- COMPLETENESS
 
 pub complete : IsComplete
-complete words text given left held held' script _ (done s h w whole r t) c serial few is a b = inl (refl, sym (gave_all text given left c whole.0))
-complete words text given left held held' script _ (decodes class status w whole ends) c serial few is a b = absurd (two_ways (command_of words) class serial w)
-complete words text given left held held' script _ (no_memory command w t) c serial few is a b = inr refl
-complete words text given left held held' script _ (read_fault command w size t) c serial few is a b = absurd (a refl)
-complete words text given left held held' script _ (write_fault s h w whole r t) c serial few is a b = absurd (b refl)
-complete words text given left held held' script _ (bad_words w g t) c serial few is a b = absurd (is_none (command_of words) Serial serial w)
-complete words text given left held held' script _ (bad_script line why w whole r t) c serial few is a b =
+complete words text given left held held' faults faults' script _ (done s h w whole r t) c serial few is a b = inl (refl, sym (gave_all text given left c whole.0))
+complete words text given left held held' faults faults' script _ (decodes class status w whole ends) c serial few is a b = absurd (two_ways (command_of words) class serial w)
+complete words text given left held held' faults faults' script _ (no_memory command w t) c serial few is a b = inr refl
+complete words text given left held held' faults faults' script _ (read_fault command w size t) c serial few is a b = absurd (a refl)
+complete words text given left held held' faults faults' script _ (write_fault s h w whole r t) c serial few is a b = absurd (b refl)
+complete words text given left held held' faults faults' script _ (bad_words w g t) c serial few is a b = absurd (is_none (command_of words) Serial serial w)
+complete words text given left held held' faults faults' script _ (bad_script line why w whole r t) c serial few is a b =
     absurd (no_script script (line, why) (first_script_of given) (ap first_script_of (sym (gave_all text given left c whole.0)) ∙ is) r)
-complete words text given left held held' script _ (too_large command w size t) c serial few is a b =
+complete words text given left held held' faults faults' script _ (too_large command w size t) c serial few is a b =
     let some = gave_some text given left c in absurd (omega (arith, some))
 
 -- what the bytes are read as, by the words' class and the source's whole text
@@ -61,21 +61,21 @@ text_of : (class other : Class) (frames others : List (List ℕ)) (commands more
 text_of class other frames others commands more a b c = sym (ap (λ k. decoded_text k frames commands) a ∙ ap (λ fs. decoded_text other fs commands) b ∙ ap (λ n. decoded_text other others n) c)
 
 pub decode_complete : DecodeIsComplete
-decode_complete words text given left held held' class frames commands _ (done s h w whole r t) c decode few is a b = absurd (two_ways (command_of words) class w decode)
-decode_complete words text given left held held' class frames commands _ (decodes other _ w whole (decoded others more r t)) c decode few is a b =
+decode_complete words text given left held held' faults faults' class frames commands _ (done s h w whole r t) c decode few is a b = absurd (two_ways (command_of words) class w decode)
+decode_complete words text given left held held' faults faults' class frames commands _ (decodes other _ w whole (decoded others more r t)) c decode few is a b =
     let same = gave_all text given left c whole.0 in
     let one = readings_are_one other given frames others commands more (reads_as (command_of words) class other text given frames commands decode w same is) r in
     let P : List ℕ → Type 0 = λ x. Appends held held' x in
     inl (refl, sym same, subst P (text_of class other frames others commands more (one_class (command_of words) class other decode w) one.0 one.1) t)
-decode_complete words text given left held held' class frames commands _ (decodes other _ w whole (stopped others more r t)) c decode few is a b = absurd (b refl)
-decode_complete words text given left held held' class frames commands _ (decodes other _ w whole (bad_transfer fault out f t)) c decode few is a b =
+decode_complete words text given left held held' faults faults' class frames commands _ (decodes other _ w whole (stopped others more r t)) c decode few is a b = absurd (b refl)
+decode_complete words text given left held held' faults faults' class frames commands _ (decodes other _ w whole (bad_transfer fault out f t)) c decode few is a b =
     absurd (out frames commands (reads_as (command_of words) class other text given frames commands decode w (gave_all text given left c whole.0) is))
-decode_complete words text given left held held' class frames commands _ (no_memory command w t) c decode few is a b = inr refl
-decode_complete words text given left held held' class frames commands _ (read_fault command w size t) c decode few is a b = absurd (a refl)
-decode_complete words text given left held held' class frames commands _ (write_fault s h w whole r t) c decode few is a b = absurd (b refl)
-decode_complete words text given left held held' class frames commands _ (bad_words w g t) c decode few is a b = absurd (is_none (command_of words) (Decode class) decode w)
-decode_complete words text given left held held' class frames commands _ (bad_script line why w whole r t) c decode few is a b = absurd (two_ways (command_of words) class w decode)
-decode_complete words text given left held held' class frames commands _ (too_large command w size t) c decode few is a b =
+decode_complete words text given left held held' faults faults' class frames commands _ (no_memory command w t) c decode few is a b = inr refl
+decode_complete words text given left held held' faults faults' class frames commands _ (read_fault command w size t) c decode few is a b = absurd (a refl)
+decode_complete words text given left held held' faults faults' class frames commands _ (write_fault s h w whole r t) c decode few is a b = absurd (b refl)
+decode_complete words text given left held held' faults faults' class frames commands _ (bad_words w g t) c decode few is a b = absurd (is_none (command_of words) (Decode class) decode w)
+decode_complete words text given left held held' faults faults' class frames commands _ (bad_script line why w whole r t) c decode few is a b = absurd (two_ways (command_of words) class w decode)
+decode_complete words text given left held held' faults faults' class frames commands _ (too_large command w size t) c decode few is a b =
     let some = gave_some text given left c in absurd (omega (arith, some))
 
 -- EACH REFUSAL WHERE IT IS DUE
@@ -92,7 +92,7 @@ is_inside : (asked : Option Command) (class other : Class) (given : List ℕ) (f
 is_inside asked class other given frames commands a b r out = out frames commands (reads_as asked class other given given frames commands a b refl r)
 
 pub exact : RefusalsAreExact
-exact words given left held held' _ (done script history w whole is t) = record {
+exact words given left held held' faults faults' _ (done script history w whole is t) = record {
   of_words = good_words words Serial 0 w (λ e. omega (arith, e));
   of_script = λ e. absurd (omega (arith, e));
   of_no_script = λ a few bad c. absurd (is_script given script is bad);
@@ -101,7 +101,7 @@ exact words given left held held' _ (done script history w whole is t) = record 
   of_size = λ e. absurd (omega (arith, e));
   of_more = λ big. let few = whole.1 in absurd (omega (arith, few, big));
 }
-exact words given left held held' _ (decodes class _ w whole (decoded frames commands r t)) = record {
+exact words given left held held' faults faults' _ (decodes class _ w whole (decoded frames commands r t)) = record {
   of_words = good_words words (Decode class) 0 w (λ e. omega (arith, e));
   of_script = λ e. absurd (omega (arith, e));
   of_no_script = λ a few bad c. absurd (two_ways (command_of words) class a w);
@@ -110,7 +110,7 @@ exact words given left held held' _ (decodes class _ w whole (decoded frames com
   of_size = λ e. absurd (omega (arith, e));
   of_more = λ big. let few = whole.1 in absurd (omega (arith, few, big));
 }
-exact words given left held held' _ (decodes class _ w whole (stopped frames commands r t)) = record {
+exact words given left held held' faults faults' _ (decodes class _ w whole (stopped frames commands r t)) = record {
   of_words = good_words words (Decode class) 3 w (λ e. omega (arith, e));
   of_script = λ e. absurd (omega (arith, e));
   of_no_script = λ a few bad c. absurd (two_ways (command_of words) class a w);
@@ -119,7 +119,7 @@ exact words given left held held' _ (decodes class _ w whole (stopped frames com
   of_size = λ e. absurd (omega (arith, e));
   of_more = λ big. let few = whole.1 in absurd (omega (arith, few, big));
 }
-exact words given left held held' _ (decodes class _ w whole (bad_transfer fault out is t)) = record {
+exact words given left held held' faults faults' _ (decodes class _ w whole (bad_transfer fault out is t)) = record {
   of_words = good_words words (Decode class) 8 w (λ e. omega (arith, e));
   of_script = λ e. absurd (omega (arith, e));
   of_no_script = λ a few bad c. absurd (two_ways (command_of words) class a w);
@@ -128,7 +128,7 @@ exact words given left held held' _ (decodes class _ w whole (bad_transfer fault
   of_size = λ e. absurd (omega (arith, e));
   of_more = λ big. let few = whole.1 in absurd (omega (arith, few, big));
 }
-exact words given left held held' _ (no_memory command w t) = record {
+exact words given left held held' faults faults' _ (no_memory command w t) = record {
   of_words = good_words words command 1 w (λ e. omega (arith, e));
   of_script = λ e. absurd (omega (arith, e));
   of_no_script = λ a few bad c. inr refl;
@@ -137,7 +137,7 @@ exact words given left held held' _ (no_memory command w t) = record {
   of_size = λ e. absurd (omega (arith, e));
   of_more = λ big. inr refl;
 }
-exact words given left held held' _ (read_fault command w size t) = record {
+exact words given left held held' faults faults' _ (read_fault command w size t) = record {
   of_words = good_words words command 2 w (λ e. omega (arith, e));
   of_script = λ e. absurd (omega (arith, e));
   of_no_script = λ a few bad c. absurd (c refl);
@@ -146,7 +146,7 @@ exact words given left held held' _ (read_fault command w size t) = record {
   of_size = λ e. absurd (omega (arith, e));
   of_more = λ big. absurd (omega (arith, size, big));
 }
-exact words given left held held' _ (write_fault script history w whole is t) = record {
+exact words given left held held' faults faults' _ (write_fault script history w whole is t) = record {
   of_words = good_words words Serial 3 w (λ e. omega (arith, e));
   of_script = λ e. absurd (omega (arith, e));
   of_no_script = λ a few bad c. absurd (is_script given script is bad);
@@ -155,7 +155,7 @@ exact words given left held held' _ (write_fault script history w whole is t) = 
   of_size = λ e. absurd (omega (arith, e));
   of_more = λ big. let few = whole.1 in absurd (omega (arith, few, big));
 }
-exact words given left held held' _ (bad_words w none t) = record {
+exact words given left held held' faults faults' _ (bad_words w none t) = record {
   of_words = (λ e. w, λ f. refl);
   of_script = λ e. absurd (omega (arith, e));
   of_no_script = λ a few bad c. absurd (is_none (command_of words) Serial a w);
@@ -164,7 +164,7 @@ exact words given left held held' _ (bad_words w none t) = record {
   of_size = λ e. absurd (omega (arith, e));
   of_more = λ big. let nothing = ap length none in absurd (omega (arith, nothing, big));
 }
-exact words given left held held' _ (bad_script line why w whole is t) = record {
+exact words given left held held' faults faults' _ (bad_script line why w whole is t) = record {
   of_words = good_words words Serial 5 w (λ e. omega (arith, e));
   of_script = λ e. (w, (line, why, is));
   of_no_script = λ a few bad c. inl refl;
@@ -173,7 +173,7 @@ exact words given left held held' _ (bad_script line why w whole is t) = record 
   of_size = λ e. absurd (omega (arith, e));
   of_more = λ big. let few = whole.1 in absurd (omega (arith, few, big));
 }
-exact words given left held held' _ (too_large command w size t) = record {
+exact words given left held held' faults faults' _ (too_large command w size t) = record {
   of_words = good_words words command 7 w (λ e. omega (arith, e));
   of_script = λ e. absurd (omega (arith, e));
   of_no_script = λ a few bad c. absurd (omega (arith, size, few));

@@ -18,8 +18,8 @@ script_given lent text given read e f h = ap first_script_of (sym (e ∙ f)) ∙
 pub script_in_range : (text : List ℕ) (script : Script) → first_script_of text ≡ Ok script → AreInRange script.params
 script_in_range text script h = (first_ready text script h).in_range
 
-pub told_line : (held held' : Option (List ℕ)) (lent text line : List ℕ) → lent ≡ text → text ≡ line → Tells held held' lent → Tells held held' line
-told_line held held' lent text line e f h = let P : List ℕ → Type 0 = λ t. Tells held held' t in subst P (e ∙ f) h
+pub told_line : (held held' : Option (List ℕ)) (faults faults' : ℕ) (lent text line : List ℕ) → lent ≡ text → text ≡ line → Tells held held' faults faults' lent → Tells held held' faults faults' line
+told_line held held' faults faults' lent text line e f h = let P : List ℕ → Type 0 = λ t. Tells held held' faults faults' t in subst P (e ∙ f) h
 
 -- the line of a refusal, word by word
 pub refusal : (a b c d e word : List ℕ) (line : ℕ) (why : FirstWhy) → a ≡ [] → b ≡ a ++ codes "bad script" → c ≡ b ++ 32 ∷ decimal line
@@ -29,9 +29,9 @@ refusal a b c d e word line why ha hb hc hw hd he =
     ∙ ap (λ w. codes "bad script" ++ 32 ∷ decimal line ++ 32 ∷ w) hw)
 
 -- what was decoded, through what is lent
-pub decodes_given : (class : Class) (lent text given : List ℕ) (held held' : Option (List ℕ)) (status : ℕ) → lent ≡ text → text ≡ given
-    → Decodes class lent held held' status → Decodes class given held held' status
-decodes_given class lent text given held held' status e f d = let P : List ℕ → Type 0 = λ t. Decodes class t held held' status in subst P (e ∙ f) d
+pub decodes_given : (class : Class) (lent text given : List ℕ) (held held' : Option (List ℕ)) (faults faults' status : ℕ) → lent ≡ text → text ≡ given
+    → Decodes class lent held held' faults faults' status → Decodes class given held held' faults faults' status
+decodes_given class lent text given held held' faults faults' status e f d = let P : List ℕ → Type 0 = λ t. Decodes class t held held' faults faults' status in subst P (e ∙ f) d
 
 -- a command that isn't decode is serial
 pub serial_only : (asked : Option Command) (command : Command) → Some command ≡ asked → ((class : Class) → command ≡ Decode class → ⊥) → asked ≡ Some Serial

@@ -32,23 +32,23 @@ abbrev pub IsWhole : List ℕ → Option (List ℕ) → Type 0
 IsWhole given left = IsAtEnd left × (length given ≤ MOST_INPUT)
 
 -- What each status says: of the words, of the bytes that the source gave and what it has left, and of what the sink holds before
--- and after.
-pub data Ends (words : List (List ℕ)) (given : List ℕ) (left held held' : Option (List ℕ)) : ℕ → Type 0 where
+-- and how often it failed, before and after.
+pub data Ends (words : List (List ℕ)) (given : List ℕ) (left held held' : Option (List ℕ)) (faults faults' : ℕ) : ℕ → Type 0 where
   done : (script : Script) (history : History) → command_of words ≡ Some Serial → IsWhole given left → first_script_of given ≡ Ok script
-      → Appends held held' (trace history) → Ends words given left held held' 0
+      → Appends held held' (trace history) → Ends words given left held held' faults faults' 0
   decodes : (class : Class) (status : ℕ) → command_of words ≡ Some (Decode class) → IsWhole given left
-      → Decodes class given held held' status → Ends words given left held held' status
-  no_memory : (command : Command) → command_of words ≡ Some command → Tells held held' (codes "no memory\n")
-      → Ends words given left held held' 1
-  read_fault : (command : Command) → command_of words ≡ Some command → length given ≤ MOST_INPUT → Tells held held' (codes "read fault\n")
-      → Ends words given left held held' 2
+      → Decodes class given held held' faults faults' status → Ends words given left held held' faults faults' status
+  no_memory : (command : Command) → command_of words ≡ Some command → Tells held held' faults faults' (codes "no memory\n")
+      → Ends words given left held held' faults faults' 1
+  read_fault : (command : Command) → command_of words ≡ Some command → length given ≤ MOST_INPUT → Tells held held' faults faults' (codes "read fault\n")
+      → Ends words given left held held' faults faults' 2
   write_fault : (script : Script) (history : History) → command_of words ≡ Some Serial → IsWhole given left → first_script_of given ≡ Ok script
-      → Stopped held held' (trace history) → Ends words given left held held' 3
-  bad_words : command_of words ≡ None → given ≡ [] → Tells held held' (codes "bad words\n") → Ends words given left held held' 4
+      → Stopped held held' (trace history) → Ends words given left held held' faults faults' 3
+  bad_words : command_of words ≡ None → given ≡ [] → Tells held held' faults faults' (codes "bad words\n") → Ends words given left held held' faults faults' 4
   bad_script : (line : ℕ) (why : FirstWhy) → command_of words ≡ Some Serial → IsWhole given left → first_script_of given ≡ Err (line, why)
-      → Tells held held' (bad_script_line line why) → Ends words given left held held' 5
-  too_large : (command : Command) → command_of words ≡ Some command → length given ≡ MOST_INPUT + 1 → Tells held held' (codes "too large\n")
-      → Ends words given left held held' 7
+      → Tells held held' faults faults' (bad_script_line line why) → Ends words given left held held' faults faults' 5
+  too_large : (command : Command) → command_of words ≡ Some command → length given ≡ MOST_INPUT + 1 → Tells held held' faults faults' (codes "too large\n")
+      → Ends words given left held held' faults faults' 7
 
 -- the text of no script
 abbrev pub IsNoScript : List ℕ → Type 0
@@ -67,21 +67,21 @@ pub record RefusesExactly (words : List (List ℕ)) (given : List ℕ) (status :
   pub of_more : MOST_INPUT < length given → (status ≡ 7) ⊎ (status ≡ 1)
 
 abbrev pub RefusalsAreExact : Type 0
-RefusalsAreExact = (words : List (List ℕ)) (given : List ℕ) (left held held' : Option (List ℕ)) (status : ℕ)
-    → Ends words given left held held' status → RefusesExactly words given status
+RefusalsAreExact = (words : List (List ℕ)) (given : List ℕ) (left held held' : Option (List ℕ)) (faults faults' status : ℕ)
+    → Ends words given left held held' faults faults' status → RefusesExactly words given status
 
 -- Completeness: where the words are right and the source told a script's text that isn't too long, a status that isn't a fault's
 -- is 0, or want of memory's; and at 0 the whole text was read.
 abbrev pub IsComplete : Type 0
-IsComplete = (words : List (List ℕ)) (text given : List ℕ) (left held held' : Option (List ℕ)) (script : Script) (status : ℕ)
-    → Ends words given left held held' status → Consumes (Some text) left given
+IsComplete = (words : List (List ℕ)) (text given : List ℕ) (left held held' : Option (List ℕ)) (faults faults' : ℕ) (script : Script) (status : ℕ)
+    → Ends words given left held held' faults faults' status → Consumes (Some text) left given
     → command_of words ≡ Some Serial → length text ≤ MOST_INPUT → first_script_of text ≡ Ok script
     → (status ≡ 2 → ⊥) → (status ≡ 3 → ⊥) → ((status ≡ 0) × (given ≡ text)) ⊎ (status ≡ 1)
 
 -- The same of a transfer that the class's grammar reads: at 0 the whole of it was read, and the sink grew by its text.
 abbrev pub DecodeIsComplete : Type 0
-DecodeIsComplete = (words : List (List ℕ)) (text given : List ℕ) (left held held' : Option (List ℕ)) (class : Class) (frames : List (List ℕ))
-    (commands status : ℕ) → Ends words given left held held' status → Consumes (Some text) left given
+DecodeIsComplete = (words : List (List ℕ)) (text given : List ℕ) (left held held' : Option (List ℕ)) (faults faults' : ℕ) (class : Class)
+    (frames : List (List ℕ)) (commands status : ℕ) → Ends words given left held held' faults faults' status → Consumes (Some text) left given
     → command_of words ≡ Some (Decode class) → length text ≤ MOST_INPUT → Reads class text frames commands
     → (status ≡ 2 → ⊥) → (status ≡ 3 → ⊥)
     → ((status ≡ 0) × (given ≡ text) × Appends held held' (decoded_text class frames commands)) ⊎ (status ≡ 1)

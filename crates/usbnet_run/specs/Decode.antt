@@ -58,12 +58,12 @@ decoded_text class frames commands = head_text class (length frames) ++ (frame_l
 abbrev pub IsOutside : Class → List ℕ → Type 0
 IsOutside class bytes = (frames : List (List ℕ)) (commands : ℕ) → Reads class bytes frames commands → ⊥
 
--- How the decoding of bytes ends, by the status: at 0 the sink grew by the text of what the grammar reads; at 3 by a front of it, and
+-- How the decoding of bytes ends, by the status, the sink's bytes and its count of faults: at 0 the sink grew by the text of what the grammar reads; at 3 by a front of it, and
 -- not all; at 8 the grammar has no reading, and the line tells the first fault.
-pub data Decodes (class : Class) (bytes : List ℕ) (held held' : Option (List ℕ)) : ℕ → Type 0 where
+pub data Decodes (class : Class) (bytes : List ℕ) (held held' : Option (List ℕ)) (faults faults' : ℕ) : ℕ → Type 0 where
   decoded : (frames : List (List ℕ)) (commands : ℕ) → Reads class bytes frames commands → Appends held held' (decoded_text class frames commands)
-      → Decodes class bytes held held' 0
+      → Decodes class bytes held held' faults faults' 0
   stopped : (frames : List (List ℕ)) (commands : ℕ) → Reads class bytes frames commands → Stopped held held' (decoded_text class frames commands)
-      → Decodes class bytes held held' 3
-  bad_transfer : (fault : Fault) → IsOutside class bytes → fault_of class bytes ≡ Some fault → Tells held held' (bad_transfer_line fault)
-      → Decodes class bytes held held' 8
+      → Decodes class bytes held held' faults faults' 3
+  bad_transfer : (fault : Fault) → IsOutside class bytes → fault_of class bytes ≡ Some fault → Tells held held' faults faults' (bad_transfer_line fault)
+      → Decodes class bytes held held' faults faults' 8

@@ -1,8 +1,8 @@
 -- The line of a refusal.
 use Rattle.std.specs.Prelude.{ℕ, List, ◌⊎◌, Option}
 use Rattle.std.specs.Io.KnownBytes.{Appends}
-use Rattle.un_io.specs.Io.{Stopped}
+use Rattle.un_io.specs.Io.{Rose, Stopped}
 
--- a refusal's line was written, or a front of it where a write failed
-abbrev pub Tells : Option (List ℕ) → Option (List ℕ) → List ℕ → Type 0
-Tells held held' line = Appends held held' line ⊎ Stopped held held' line
+-- a refusal's line was written; or a write failed, by the sink's count of faults, and a front of the line was
+abbrev pub Tells : Option (List ℕ) → Option (List ℕ) → ℕ → ℕ → List ℕ → Type 0
+Tells held held' faults faults' line = Appends held held' line ⊎ (Stopped held held' line × Rose faults faults')

@@ -29,7 +29,7 @@ fn why_word(why: FirstWhy) -> &'static [u8]
 
 /// Writes a refusal's line, or a front of it: the status stays the refusal's own where the write fails.
 pub(crate) fn tell<O: Sink>(out: &mut O, line: &[u8])
-    ensures told { Tells (O.held out.old) (O.held out.new) line.now }
+    ensures told { Tells (O.held out.old) (O.held out.new) (O.faults out.old) (O.faults out.new) line.now }
     ensures never_falls { O.faults out.old ≤ O.faults out.new }
 {
     let _ = write_whole(out, line);
@@ -37,7 +37,7 @@ pub(crate) fn tell<O: Sink>(out: &mut O, line: &[u8])
 
 /// Writes that a script's line is refused.
 fn tell_bad_script<O: Sink>(out: &mut O, line: u64, why: FirstWhy)
-    ensures told { Tells (O.held out.old) (O.held out.new) (Rattle.usbnet_run.specs.Command.bad_script_line line why) }
+    ensures told { Tells (O.held out.old) (O.held out.new) (O.faults out.old) (O.faults out.new) (Rattle.usbnet_run.specs.Command.bad_script_line line why) }
     ensures never_falls { O.faults out.old ≤ O.faults out.new }
 {
     let mut refusal = Buffer::make();
@@ -64,7 +64,7 @@ pub fn plain_command<I: Source, O: Sink>(
 ) -> u8
     // What the status says.
     ensures ends { (given : List ℕ) × Consumes (I.left input.old) (I.left input.new) given
-        × Ends (map string_bytes words.now) given (I.left input.new) (O.held out.old) (O.held out.new) result }
+        × Ends (map string_bytes words.now) given (I.left input.new) (O.held out.old) (O.held out.new) (O.faults out.old) (O.faults out.new) result }
 
     // A fault is the source's or the sink's own.
     ensures read_fault { result ≡ 2 → Rose (I.faults input.old) (I.faults input.new) }

@@ -62,7 +62,7 @@ fn kind_word(kind: Kind) -> &'static [u8]
 
 /// Writes that a transfer is refused, for its first fault.
 fn tell_bad_transfer<O: Sink>(out: &mut O, fault: Fault)
-    ensures told { Tells (O.held out.old) (O.held out.new) (bad_transfer_line fault) }
+    ensures told { Tells (O.held out.old) (O.held out.new) (O.faults out.old) (O.faults out.new) (bad_transfer_line fault) }
     ensures never_falls { O.faults out.old ≤ O.faults out.new }
 {
     let mut refusal = Buffer::make();
@@ -184,7 +184,7 @@ fn write_decoded<O: Sink>(out: &mut O, class: Class, parts: &mut Parts) -> Resul
 /// written; 3 where a write of that text failed, and then the sink has grown by a front of it and not all; 8 exactly where the grammar
 /// has no reading of the bytes, and then the line of the first fault was written, or a front of it. Takes no memory.
 pub fn decode<O: Sink>(out: &mut O, class: Class, bytes: &[u8]) -> u8
-    ensures ends { Decodes class bytes.now (O.held out.old) (O.held out.new) result }
+    ensures ends { Decodes class bytes.now (O.held out.old) (O.held out.new) (O.faults out.old) (O.faults out.new) result }
     ensures never_falls { O.faults out.old ≤ O.faults out.new }
     ensures cause { result ≡ 3 → Rose (O.faults out.old) (O.faults out.new) }
 {

@@ -91,7 +91,13 @@ fn packets_are_decoded(rt: HostRuntime) -> Result<(), Fail> {
     let alloc = rt.alloc();
     let one = b"class eem\nframes 0\ncommands 1\n";
     let none = b"class eem\nframes 0\ncommands 0\n";
+    let mixed = b"class eem\nframes 1\nframe 0 14 0200000000020200000000010800\ncommands 1\n";
     let echo = Vec::from_slice(alloc, b"\x03\x80\x01\x02\x03\0\0")?;
+    let both = Vec::from_slice(
+        alloc,
+        b"\x12\0\x02\0\0\0\0\x02\x02\0\0\0\0\x01\x08\0\xde\xad\xbe\xef\0\0\x03\x80\x01\x02\x03",
+    )?;
+    assert!(rt; gives(alloc, "eem", both, 0, mixed)?);
     assert!(rt; gives(alloc, "eem", echo, 0, one)?);
     assert!(rt; gives(alloc, "eem", Vec::new(alloc), 0, none)?);
     Ok(())
@@ -113,6 +119,16 @@ fn faulty_packets_are_refused(rt: HostRuntime) -> Result<(), Fail> {
     ] {
         assert!(rt; refuses(rt.alloc(), "eem", bytes, 0, &[], line)?);
     }
+    Ok(())
+}
+
+#[test]
+fn a_frame_is_decoded(rt: HostRuntime) -> Result<(), Fail> {
+    let alloc = rt.alloc();
+    let head = b"class ecm\nframes 1\nframe 0 60 ";
+    let text = filled(alloc, &[(head, 60), (b"\ncommands 0\n", 0)])?;
+    let frame = Vec::from_slice(alloc, &BLOCK_16[14..74])?;
+    assert!(rt; gives(alloc, "ecm", frame, 0, &text)?);
     Ok(())
 }
 

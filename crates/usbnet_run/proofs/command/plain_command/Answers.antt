@@ -27,7 +27,7 @@ pub returns-in-Decode-clause-ends : goal.returns-in-Decode-clause-ends
 returns-in-Decode-clause-ends g c =
     let r = c.in-Ok.ensures.given in
     let asked = decode_asked _ c.in-Some.command c.in-Decode.class c.in-Some.ensures c.in-Decode.is in
-    (r.0, r.1, Ends.decodes c.in-Decode.class c.decode.result asked (r.2.2, r.2.1) (decodes_given c.in-Decode.class _ _ _ _ _ c.decode.result c.deref.ensures.value r.2.0 c.decode.ensures.ends))
+    (r.0, r.1, Ends.decodes c.in-Decode.class c.decode.result asked (r.2.2, r.2.1) (decodes_given c.in-Decode.class _ _ _ _ _ _ _ c.decode.result c.deref.ensures.value r.2.0 c.decode.ensures.ends))
 
 pub returns-in-Err-NoMemory-read_first_form-clause-ends : goal.returns-in-Err-NoMemory-read_first_form-clause-ends
 returns-in-Err-NoMemory-read_first_form-clause-ends g c =
