@@ -1,0 +1,7 @@
+pub mod Way
+pub mod Stands
+pub mod Phases
+pub mod Answered
+pub mod Fresh
+pub mod Controls
+pub mod Still
