@@ -260,9 +260,9 @@ fn has(request: &Request, number: u64) -> bool
     request.from() <= number && number < request.to()
 }
 
-/// How many of these transfers have a number in their span.
+/// How many of these transfers have a datagram's number in their span.
 #[tactic(auto, unfolding(crate::specs::Bus::queued_count), using(crate::proofs::Counts::counted_more, crate::proofs::Counts::counted_less))]
-fn spans_with(queue: &HeapCircularBuffer<Request>, number: u64) -> u32
+pub fn spans_with(queue: &HeapCircularBuffer<Request>, number: u64) -> u32
     requires { length queue.now.items < 2 ^ 32 }
     ensures { result ≡ queued_count number queue.now.items }
 {

@@ -9,7 +9,7 @@ mod record;
 #[cfg(test)]
 mod tests;
 
-pub use endpoint::Endpoint;
+pub use endpoint::{Endpoint, spans_with};
 pub use ends::{RxEnd, TxEnd};
 pub use flight::{Carried, Flight};
 pub use outcome::{Built, Full, Landed, Taken, Ticked};

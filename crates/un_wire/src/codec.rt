@@ -2,6 +2,7 @@
 
 ghost use Rattle.std.specs.Prelude.{◌≡◌, ◌+◌, ◌<◌, ◌↔◌, IfNone, IfOk, IfSome, IsTrue};
 ghost use Rattle.un_frame.specs.Fault.{fault_in};
+ghost use Rattle.un_frame.specs.Lanes.{packs};
 ghost use Rattle.un_frame.specs.Params.{Agree, AreInRange};
 ghost use Rattle.un_frame.specs.Parts.{datagram_of};
 ghost use Rattle.un_frame.specs.Wire.{fault_of};
@@ -13,7 +14,7 @@ use crate::ntb::{Ntb16Wire, Ntb32Wire};
 use crate::parts::Parts;
 use crate::wire::Wire;
 use std::alloc::{AllocError, Global};
-use un_frame::{Class, Fault, Params};
+use un_frame::{Class, Fault, Lane, Params};
 use un_req::Request;
 
 /// A codec of any class.
@@ -53,6 +54,16 @@ impl Codec {
             Codec::Eem(codec) => codec.class(),
             Codec::Ncm16(codec) => codec.class(),
             Codec::Ncm32(codec) => codec.class(),
+        }
+    }
+
+    /// Whether the transmitting end of a lane packs several frames into one of its transfers: with NCM it does.
+    pub fn packs(&self, lane: Lane) -> bool
+        ensures { result ≡ packs (coding_of self.now).params.class lane }
+    {
+        match self.class() {
+            Class::Ecm | Class::Eem => false,
+            Class::Ncm16 | Class::Ncm32 => true,
         }
     }
 

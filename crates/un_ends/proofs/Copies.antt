@@ -1,0 +1,69 @@
+-- How often numbers stand in lists.
+use Rattle.std.proofs.Common.{◌≡◌, ℕ, ◌+◌, ◌<◌, ◌≤◌, Bool, true, false, eqb, nat_lt, List, [], ◌∷◌, ◌++◌, length, map, refl, sym, ap, ◌∙◌, arith}
+use Rattle.std.proofs.lemmas.Bool.{eq-eqb, eqb-true, ltb-true, ltb-false, false≢true}
+use Rattle.std.proofs.lemmas.Map.Steps.{length-le_from_distinct_below}
+use Rattle.std.specs.List.{AllByRecursion, IsDistinct}
+use Rattle.un_req.specs.Request.{Buffer, copies, has, number_of, one_if}
+
+pub copies_append : (n : ℕ) (xs ys : List ℕ) → copies n (xs ++ ys) ≡ copies n xs + copies n ys
+copies_append n [] ys = omega arith
+copies_append n (x ∷ xs) ys = let r : copies n (xs ++ ys) ≡ copies n xs + copies n ys = copies_append n xs ys in omega arith
+
+pub map_append : (xs ys : List Buffer) → map number_of (xs ++ ys) ≡ map number_of xs ++ map number_of ys
+map_append [] ys = refl
+map_append (x ∷ xs) ys = ap (λ zs. x.number ∷ zs) (map_append xs ys)
+
+pub copies_last : (n : ℕ) (xs : List Buffer) (y : Buffer) → copies n (map number_of (xs ++ y ∷ [])) ≡ copies n (map number_of xs) + one_if (eqb n y.number)
+copies_last n xs y =
+    let split : copies n (map number_of (xs ++ y ∷ [])) ≡ copies n (map number_of xs ++ y.number ∷ []) = ap (λ (ns : List ℕ). copies n ns) (map_append xs (y ∷ [])) in
+    let sum = copies_append n (map number_of xs) (y.number ∷ []) in
+    omega (arith, split, sum)
+
+-- a number that is another's, and one that isn't
+pub one_here : (n : ℕ) → one_if (eqb n n) ≡ 1
+one_here n = rw (eq-eqb n n refl) refl
+
+pub one_cases : (n k limit total : ℕ) → (n ≡ k → total + 1 ≤ limit) → total ≤ limit → total + one_if (eqb n k) ≤ limit
+one_cases n k limit total here below = at (eqb n k) refl
+  where
+    at : (b : Bool) → eqb n k ≡ b → total + one_if b ≤ limit
+    at true e = here (eqb-true n k e)
+    at false e = omega (arith, below)
+
+-- a number that doesn't stand in a list isn't its first, nor in what is left
+first_away : (n x rest : ℕ) → one_if (eqb n x) + rest ≡ 0 → (eqb n x ≡ false) × (rest ≡ 0)
+first_away n x rest e = at (eqb n x) refl
+  where
+    at : (b : Bool) → eqb n x ≡ b → (eqb n x ≡ false) × (rest ≡ 0)
+    at true s = absurd (let one : one_if (eqb n x) ≡ 1 = ap one_if s in omega (arith, one, e))
+    at false s = (s, omega (arith, e))
+
+pub none_has : (n : ℕ) (xs : List ℕ) → copies n xs ≡ 0 → has n xs ≡ false
+none_has n [] e = refl
+none_has n (x ∷ xs) e = let away = first_away n x (copies n xs) e in rw (away.0, none_has n xs away.1) refl
+
+-- A list in which no number stands twice, and none from a size on, has at most so many elements.
+
+all_apart : (x : ℕ) (xs : List ℕ) → copies x xs ≡ 0 → AllByRecursion (λ y. eqb x y ≡ false) xs
+all_apart x [] e = tt
+all_apart x (y ∷ ys) e = let away = first_away x y (copies x ys) e in (away.0, all_apart x ys away.1)
+
+distinct : (xs : List ℕ) → ((n : ℕ) → copies n xs ≤ 1) → IsDistinct eqb xs
+unfolding IsDistinct
+distinct [] once = tt
+distinct (x ∷ xs) once =
+    let here : one_if (eqb x x) + copies x xs ≤ 1 = once x in
+    let one = one_here x in (
+      all_apart x xs (omega (arith, here, one)),
+      distinct xs (λ n. let all : one_if (eqb n x) + copies n xs ≤ 1 = once n in omega (arith, all)),
+    )
+
+has_copies : (n : ℕ) (xs : List ℕ) → has n xs ≡ true → copies n xs ≡ 0 → ⊥
+has_copies n xs h e = false≢true (sym (none_has n xs e) ∙ h)
+
+pub few : (xs : List ℕ) (size : ℕ) → ((n : ℕ) → copies n xs ≤ 1) → ((n : ℕ) → size ≤ n → copies n xs ≡ 0) → length xs ≤ size
+few xs size once known = length-le_from_distinct_below xs size (distinct xs once) (λ q m. below q m (nat_lt q size) refl)
+  where
+    below : (q : ℕ) → has q xs ≡ true → (b : Bool) → nat_lt q size ≡ b → q < size
+    below q m true e = ltb-true q size e
+    below q m false e = absurd (has_copies q xs m (known q (ltb-false q size e)))

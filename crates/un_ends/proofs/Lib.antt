@@ -1,0 +1,4 @@
+pub mod Copies
+pub mod Lifts
+pub mod Moves
+pub mod Starts

@@ -1,0 +1,68 @@
+-- A new transmitting end, and the first request of a list that comes home.
+use Rattle.std.proofs.Common.{◌≡◌, ℕ, zero, suc, ◌+◌, ◌<◌, ◌≤◌, Bool, true, false, eqb, nat_lt, List, [], ◌∷◌, map, IsTrue, refl, ap, subst, arith}
+use Rattle.std.proofs.lemmas.Bool.{ltb-true, ltb-false}
+use Rattle.std.specs.List.{AllByRecursion}
+use Rattle.un_frame.specs.declared.params.Lane.{Lane}
+use Rattle.un_frame.specs.declared.params.Params.{Params}
+use Rattle.un_frame.specs.Params.{AreInRange, Agree}
+use Rattle.un_frame.specs.Wire.{frame_fits}
+use Rattle.un_frame.proofs.FrameLemmas.{segment_fits}
+use Rattle.un_req.specs.Request.{Buffer, copies, number_of, one_if, upto}
+use Rattle.un_endpoint.specs.Ends.{Transmitter, tx_copies}
+use Rattle.un_ends.specs.Rows.{IsFirstOut}
+use Rattle.un_ends.specs.Sound.{IsSoundTx, fresh_tx, tx_size}
+use Rattle.un_ends.proofs.Copies.{copies_append, none_has, one_cases, one_here}
+
+-- the numbers below one stand once in their list, and no others
+upto_none : (size n : ℕ) → size ≤ n → copies n (upto size) ≤ 0
+upto_none zero n big = omega arith
+upto_none (suc size) n big =
+    let before = upto_none size n (omega arith) in
+    let split = copies_append n (upto size) (size ∷ []) in
+    let all = one_cases n size 0 (copies n (upto size)) (λ e. absurd (omega (arith, e, big))) before in
+    omega (arith, split, all)
+
+upto_once : (size n : ℕ) → copies n (upto size) ≤ 1
+upto_once zero n = omega arith
+upto_once (suc size) n =
+    let split = copies_append n (upto size) (size ∷ []) in
+    let all = one_cases n size 1 (copies n (upto size)) (λ e. let none = upto_none size n (omega (arith, e)) in omega (arith, none)) (upto_once size n) in
+    omega (arith, split, all)
+
+pub fresh_sound : (lane : Lane) (params : Params) → AreInRange params → Agree params → IsSoundTx (fresh_tx lane params)
+fresh_sound lane params in_range agree = record {
+  in_range = in_range;
+  agree = agree;
+  capacity_is = refl;
+  places = record {
+    once = λ n. let home = upto_once (tx_size lane params) n in omega (arith, home);
+    known = λ n big. let home = upto_none (tx_size lane params) n big in omega (arith, home);
+  };
+  deferred_sized = tt;
+  done_sized = tt;
+}
+
+-- the first done request is out of the pool
+first_done : (t : Transmitter) (requests : List Buffer) → t.done ≡ requests → IsSoundTx t → IsFirstOut (record { count = t.size; capacity = t.capacity; home = t.home }) requests
+first_done t [] e s = tt
+first_done t (request ∷ left) e s =
+    let here : copies request.number (map number_of t.done) ≡ one_if (eqb request.number request.number) + copies request.number (map number_of left) = ap (λ (rs : List Buffer). copies request.number (map number_of rs)) e in
+    let one = one_here request.number in
+    let all : tx_copies t request.number ≤ 1 = s.places.once request.number in
+    record {
+      known = below request.number t.size (nat_lt request.number t.size) refl
+          (λ big. let none : tx_copies t request.number ≡ 0 = s.places.known request.number big in absurd (omega (arith, none, here, one)));
+      away = none_has request.number t.home (omega (arith, here, one, all));
+      sized = (subst (AllByRecursion (λ (r : Buffer). r.capacity ≡ t.capacity)) e s.done_sized).0;
+    }
+  where
+    below : (n size : ℕ) (b : Bool) → nat_lt n size ≡ b → (size ≤ n → ⊥) → n < size
+    below n size true e no_more = ltb-true n size e
+    below n size false e no_more = absurd (no_more (ltb-false n size e))
+
+pub done_out : (t : Transmitter) → IsSoundTx t → IsFirstOut (record { count = t.size; capacity = t.capacity; home = t.home }) t.done
+done_out t s = first_done t t.done refl s
+
+-- what a frame needs to fit an empty transfer
+pub segment_fits_tx : (t : Transmitter) (size : ℕ) → IsSoundTx t → size ≤ t.params.segment → IsTrue (frame_fits t.params [] size)
+segment_fits_tx t size s most = segment_fits t.params size s.in_range s.agree most

@@ -1,0 +1,11 @@
+use Rattle.std.proofs.Common.{sym, subst}
+use Rattle.un_frame.specs.declared.params.Lane.TheVariants.{Outward}
+use Rattle.un_ends.specs.Sound.{IsSoundTx}
+use Rattle.un_ends.proofs.Moves.{made_away}
+use Rattle.un_ends.proofs.Starts.{fresh_sound}
+use Rattle.un_host.proofs.tests.a_transfer_is_deferred.Goals as goal
+
+pub defer-requires-clause-away : goal.defer-requires-clause-away
+defer-requires-clause-away g c =
+    let sound = subst IsSoundTx (sym c.in_ok-end.ensures) (fresh_sound Outward c.params.result c.params.ensures.in_range c.params.ensures.agree) in
+    made_away c.in_ok-end.end c.offer.new.self _ _ _ c.in-Made.made sound c.in-Made.ensures
