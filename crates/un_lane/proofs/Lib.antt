@@ -21,3 +21,4 @@ pub mod Resuming
 pub mod Lookups
 pub mod Stillness
 pub mod Numbering
+pub mod LinkSteps

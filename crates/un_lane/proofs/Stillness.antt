@@ -15,7 +15,7 @@ use Rattle.un_endpoint.specs.declared.record.FlightRecord.{FlightRecord}
 use Rattle.un_endpoint.specs.Bus.{Bus, one_if, unmarked_count}
 use Rattle.un_endpoint.specs.Ends.{Opened as Current}
 use Rattle.un_endpoint.specs.EndOutcomes.{with_frame, closing, frame_needs_home, is_busy, can_tick, tick_needs, CanOffer, is_empty as is_empty_end}
-use Rattle.un_journal.specs.History.{History, taken, cover, took_last, waited_after, flying, arrived, ended, returned, halted, mark, posted, posts, recalls, flights, is_empty}
+use Rattle.un_journal.specs.History.{History, taken, cover, took_last, waited_after, flying, arrived, ended, returned, halted, mark, posted, is_empty}
 use Rattle.un_journal.specs.Lookup.{tx_home, rx_home, offer_needs_home, tick_needs_home, pending, queued, is_asleep}
 use Rattle.un_journal.specs.LaneSteps.{Writes, Answers, accept, tick_built, take_with, take_first, take_head, tx_done, rx_done, rx_done_at, open_first, deliver_next, deliver_current, deliver_number, post, unlink_first, clear_set}
 use Rattle.un_journal.specs.Step.{is_still, take_flight, unlink, clear_halt}
@@ -26,6 +26,7 @@ use Rattle.un_lane.specs.Controls.{unmarked_flight, unmarked_in}
 use Rattle.un_lane.specs.Still.{is_none, is_lane_still, lane_outcomes, refill_in, takes_nothing, posts_nothing, stays}
 use Rattle.un_lane.specs.Stands.{Stands, AreMarked, claims_when, pends_when, opened_serial, serial_of, flight_serial}
 use Rattle.un_lane.proofs.Giving.{due}
+use Rattle.un_lane.proofs.LinkSteps.{posted_is}
 use Rattle.un_lane.proofs.Lookups.{queued_is, unmarked_is}
 use Rattle.un_lane.proofs.Opening.{first_done, none_done}
 use Rattle.un_lane.proofs.Offering.{closing_is, home_is, needs_is}
@@ -114,9 +115,6 @@ tick_still way g frames w =
     ∙ tick_flip (length way.tx.builder.frames) (nat_lt 0 way.tx.builder.pending) (tick_needs way.tx.lane way.tx.builder.claim && is_empty_end way.tx.home)))))
 
 -- a take, where nothing flies
-
-posted_is : (way : Way) (g : History) → Stands way g → posted g ≡ length way.bus.posted
-posted_is way g w = let s : recalls g + flights g + length way.bus.posted ≡ posts g = w.queues.posted in omega arith
 
 head_if : (a h p : Bool) (x y z : Answer) (ls : History) → is_still (if a then Answers x else (if h then Answers y else (if p then Answers z else Writes ls))) ≡ (a || (h || p))
 head_if true h p x y z ls = refl

@@ -1,6 +1,6 @@
 //! Taking a flight, landing it, and what follows.
 
-ghost use Rattle.std.specs.Prelude.{◌≡◌, map, Some};
+ghost use Rattle.std.specs.Prelude.{◌≡◌, map, None, Some};
 ghost use Rattle.un_endpoint.specs.Bus.{record_of};
 ghost use Rattle.un_journal.specs.History.{made_bytes};
 ghost use Rattle.un_journal.specs.LaneSteps.{answer_in, clear_set, deliver_next, land_fault, lines_in, post, rx_done, take_queued, tx_done};
@@ -72,6 +72,7 @@ impl<T: TxEnd + Drop, R: RxEnd + Drop> Path<T, R> {
         ensures answer { result ≡ answer_in (land_fault self.old.lane fault (lane_lines self.old journal.old)) }
         ensures stands { Stands self.new (lane_lines self.new journal.new) }
         ensures leaves { Leaves self.old self.new }
+        ensures flight { self.new.bus.flight ≡ None }
     {
         let serial = carried.serial();
         let lane = self.lane;
