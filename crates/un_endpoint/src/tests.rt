@@ -35,3 +35,27 @@ fn takes_and_lands(rt: HostRuntime) -> Result<(), Fail> {
     assert_eq!(rt; carried.serial(), 9);
     Ok(())
 }
+
+#[test]
+fn lands_a_marked_flight(rt: HostRuntime) -> Result<(), Fail> {
+    let mut pool = Pool::make(rt.alloc(), 2, 16)?;
+    let mut bus = Endpoint::make(rt.alloc(), 1, 1, 16)?;
+    let mut sent = pool.take().ok_or("none is home")?;
+    sent.push(&[1, 2, 3]);
+    sent.stamp(0, 1, 7);
+    let room = pool.take().ok_or("none is home")?;
+    assert!(rt; bus.queue(sent).is_ok());
+    assert!(rt; bus.post(room).is_ok());
+    let Some(Taken::Flight(flight)) = bus.take(false) else {
+        panic!(rt; "no flight was taken");
+    };
+    assert_eq!(rt; bus.mark_oldest(5), Some(7));
+    let landed = bus.land(flight.carry(8), None);
+    assert!(rt; matches!(&landed, Landed::Cut { cause: 5, .. }));
+    assert_eq!(rt;
+        (bus.flying(), bus.clear(), bus.halted()),
+        (None, false, false)
+    );
+    assert!(rt; bus.recall().is_none());
+    Ok(())
+}
