@@ -14,7 +14,7 @@ use Rattle.un_ends.specs.Sound.{IsSoundTx, fresh_tx, tx_size}
 use Rattle.un_ends.proofs.Copies.{copies_append, none_has, one_cases, one_here}
 
 -- the numbers below one stand once in their list, and no others
-upto_none : (size n : ℕ) → size ≤ n → copies n (upto size) ≤ 0
+pub upto_none : (size n : ℕ) → size ≤ n → copies n (upto size) ≤ 0
 upto_none zero n big = omega arith
 upto_none (suc size) n big =
     let before = upto_none size n (omega arith) in
@@ -22,7 +22,7 @@ upto_none (suc size) n big =
     let all = one_cases n size 0 (copies n (upto size)) (λ e. absurd (omega (arith, e, big))) before in
     omega (arith, split, all)
 
-upto_once : (size n : ℕ) → copies n (upto size) ≤ 1
+pub upto_once : (size n : ℕ) → copies n (upto size) ≤ 1
 upto_once zero n = omega arith
 upto_once (suc size) n =
     let split = copies_append n (upto size) (size ∷ []) in

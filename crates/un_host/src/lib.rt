@@ -1,8 +1,10 @@
 //! The host's two ends.
 #![tactic(auto)]
 
+mod rx;
 #[cfg(test)]
 mod tests;
 mod tx;
 
+pub use rx::HostRx;
 pub use tx::HostTx;

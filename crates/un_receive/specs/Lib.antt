@@ -1,0 +1,2 @@
+pub mod Rx
+pub mod Reading
