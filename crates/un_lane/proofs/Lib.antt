@@ -1,0 +1,14 @@
+pub mod Adding
+pub mod Contents
+pub mod Counting
+pub mod Serials
+pub mod Finishing
+pub mod Taking
+pub mod Landing
+pub mod Opening
+pub mod Giving
+pub mod Making
+pub mod Offering
+pub mod Sending
+pub mod Closing
+pub mod Starting

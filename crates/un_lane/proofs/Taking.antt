@@ -1,0 +1,266 @@
+-- A path that has taken a flight, or given up a marked transfer, stands for the lane with one line more.
+use Rattle.std.proofs.Common.{◌≡◌, ℕ, suc, ◌+◌, ◌<◌, ◌≤◌, Bool, true, false, not, ◌||◌, ◌==◌, eqb, List, [], ◌∷◌, ◌++◌, length, map, Option, Some, None, option_to_list, inr, refl, sym, ap, ◌∙◌, subst, arith}
+use Rattle.std.specs.List.{AllByRecursion}
+use Rattle.un_frame.specs.declared.params.Lane.{Lane}
+use Rattle.un_req.specs.Request.{Buffer, copies, number_of, one_if}
+use Rattle.un_endpoint.specs.declared.record.FlightRecord.{FlightRecord}
+use Rattle.un_endpoint.specs.Bus.{Bus, Trip, record_of}
+use Rattle.un_endpoint.specs.Outcomes.{Departs, Reaps}
+use Rattle.un_endpoint.specs.Ends.{Transmitter, Receiver, IsAwayTx, tx_copies, rx_copies, tx_count, rx_count}
+use Rattle.un_journal.specs.declared.lines.Line.TheVariants.{Flying, Cut}
+use Rattle.un_journal.specs.History.{History, made, flies, waits, waiting, flying, ended, landed, failed, was_cut, mark, halted, posts, recalls, flights, first, span, made_bytes}
+use Rattle.un_journal.specs.Sound.{IsNext}
+use Rattle.un_journal.proofs.Lists.{those_rest}
+use Rattle.un_journal.proofs.Legal.{next_from}
+use Rattle.un_lane.specs.Way.{Way}
+use Rattle.un_lane.specs.Stands.{Stands, ArePlaced, AreQueued, AreMarked, IsTx, IsRx, IsText, serial_of, flight_serial, flight_tx, flight_rx}
+use Rattle.un_lane.proofs.Counting.{copies_more, length_more, map_last, one_here}
+use Rattle.un_journal.proofs.Order.{ends, in_order, next_is}
+use Rattle.un_lane.proofs.Finishing.{finish_plus}
+use Rattle.un_lane.proofs.Serials.{those_single, those_nothing, and_false, apart, same_number}
+
+-- where something is queued nothing is deferred
+pub none_deferred : (deferred queue : List Buffer) (flight : Option FlightRecord) (x : Buffer) (xs : List Buffer) → (0 < length deferred → (queue ≡ []) × (flight ≡ None)) → queue ≡ x ∷ xs → deferred ≡ []
+none_deferred [] queue flight x xs g e = refl
+none_deferred (d ∷ ds) queue flight x xs g e = absurd (let n : queue ≡ [] = (g (omega arith)).0 in cc)
+
+-- the first that waits is the first queued transfer
+pub queue_waits : (deferred : List Buffer) (bus : Bus) (x : Buffer) (xs : List Buffer) (ks : List ℕ) → deferred ≡ [] → bus.queue ≡ x ∷ xs → ks ≡ map serial_of deferred ++ map serial_of bus.queue → ks ≡ x.serial ∷ map serial_of xs
+queue_waits deferred bus x xs ks d q w = w ∙ (ap (λ ds. map serial_of ds ++ map serial_of bus.queue) d ∙ ap (map serial_of) q)
+
+depart_placed : (lane : Lane) (t : Transmitter) (r : Receiver) (bus : Bus) (trip : Trip) (posted : Buffer) (queue' posted' : List Buffer) → ArePlaced lane t r bus → bus.flight ≡ None
+    → bus.queue ≡ trip.tx ∷ queue' → bus.posted ≡ posted ∷ posted' → trip.rx ≡ posted.number → trip.rx_capacity ≡ posted.capacity
+    → ArePlaced lane t r (record bus { queue = queue'; posted = posted'; flight = Some (record_of trip); flight_mark = None })
+depart_placed lane t r bus trip posted queue' posted' p alone q o number capacity =
+    let queued = subst (AllByRecursion (IsTx t.size t.capacity)) q p.queued_are in
+    let lent = subst (AllByRecursion (IsRx r.size r.capacity)) o p.posted_are in
+    record {
+      side = p.side;
+      one_params = p.one_params;
+      no_deferred = p.no_deferred;
+      tx_size_is = p.tx_size_is;
+      rx_size_is = p.rx_size_is;
+      tx_room_is = p.tx_room_is;
+      rx_room_is = p.rx_room_is;
+      largest_is = p.largest_is;
+      wide = p.wide;
+      tx_once = λ n.
+          let e : copies n (map number_of bus.queue) ≡ one_if (eqb n trip.tx.number) + copies n (map number_of queue') = ap (λ xs. copies n (map number_of xs)) q in
+          let f : copies n (flight_tx bus.flight) ≡ 0 = ap (λ x. copies n (flight_tx x)) alone in
+          let w : tx_copies t n + (copies n (map number_of bus.queue) + copies n (flight_tx bus.flight)) ≤ 1 = p.tx_once n in omega arith;
+      rx_once = λ n.
+          let e : copies n (map number_of bus.posted) ≡ one_if (eqb n posted.number) + copies n (map number_of posted') = ap (λ xs. copies n (map number_of xs)) o in
+          let f : copies n (flight_rx bus.flight) ≡ 0 = ap (λ x. copies n (flight_rx x)) alone in
+          let s : one_if (eqb n trip.rx) ≡ one_if (eqb n posted.number) = ap (λ m. one_if (eqb n m)) number in
+          let w : rx_copies r n + (copies n (map number_of bus.posted) + copies n (flight_rx bus.flight)) ≤ 1 = p.rx_once n in omega arith;
+      tx_all =
+          let e : length bus.queue ≡ suc (length queue') = ap length q in
+          let f : length (flight_tx bus.flight) ≡ 0 = ap (λ x. length (flight_tx x)) alone in
+          let w : tx_count t + length bus.queue + length (flight_tx bus.flight) ≡ t.size = p.tx_all in omega arith;
+      rx_all =
+          let e : length bus.posted ≡ suc (length posted') = ap length o in
+          let f : length (flight_rx bus.flight) ≡ 0 = ap (λ x. length (flight_rx x)) alone in
+          let w : rx_count r + length bus.posted + length (flight_rx bus.flight) ≡ r.size = p.rx_all in omega arith;
+      deferred_are = p.deferred_are;
+      queued_are = queued.1;
+      posted_are = lent.1;
+      flight_is = record {
+        tx_known = queued.0.known;
+        tx_sized = queued.0.sized;
+        rx_known = subst (λ m. m < r.size) (sym number) lent.0.known;
+        rx_sized = capacity ∙ lent.0.sized;
+      };
+    }
+
+-- a flight of k
+module _ (l : Lane) (k : ℕ) (g : History) (next : IsNext g k) where
+  waits_other : (j : ℕ) → (j ≡ k → ⊥) → waits ((Flying l k, []) ∷ g) j ≡ waits g j
+  waits_other j ne = rw (apart k j ne) refl
+
+  waits_here : waits ((Flying l k, []) ∷ g) k ≡ false
+  waits_here = rw (same_number k) refl
+
+  pub waiting_less : (ks : List ℕ) → waiting g ≡ k ∷ ks → waiting ((Flying l k, []) ∷ g) ≡ ks
+  waiting_less ks e = those_rest (waits g) (waits ((Flying l k, []) ∷ g)) k waits_here waits_other (made g) ks e
+
+  pub flying_one : flying ((Flying l k, []) ∷ g) ≡ k ∷ []
+  flying_one = those_single (flies ((Flying l k, []) ∷ g)) k (rw (same_number k) refl) (λ j ne. rw (apart k j ne) (next.is_alone j)) (made g) next.is_made
+
+depart_queues : (l : Lane) (g : History) (deferred : List Buffer) (bus : Bus) (trip : Trip) (posted : Buffer) (queue' posted' : List Buffer) → IsNext g trip.tx.serial
+    → AreQueued deferred bus (waiting g) (flying g) (mark g) (halted g) (posts g) (recalls g) (flights g) (made g) → bus.marks ≡ []
+    → bus.queue ≡ trip.tx ∷ queue' → bus.posted ≡ posted ∷ posted'
+    → AreQueued deferred (record bus { queue = queue'; posted = posted'; flight = Some (record_of trip); flight_mark = None })
+    (waiting ((Flying l trip.tx.serial, []) ∷ g)) (flying ((Flying l trip.tx.serial, []) ∷ g)) (mark g) (halted g) (posts g) (recalls g) (flights g + 1) (made g)
+depart_queues l g deferred bus trip posted queue' posted' next w m q o =
+    let d : deferred ≡ [] = none_deferred deferred bus.queue bus.flight trip.tx queue' w.grounded q in
+    let marks : AreMarked (mark g) (trip.tx.serial ∷ map serial_of queue') [] =
+    subst (λ cs. AreMarked (mark g) (trip.tx.serial ∷ map serial_of queue') cs) m (subst (λ xs. AreMarked (mark g) (map serial_of xs) bus.marks) q w.marked) in
+    record {
+      wait = waiting_less l trip.tx.serial g next (map serial_of queue') (queue_waits deferred bus trip.tx queue' (waiting g) d q w.wait)
+          ∙ ap (λ ds. map serial_of ds ++ map serial_of queue') (sym d);
+      fly = flying_one l trip.tx.serial g next;
+      marked = subst (λ cs. AreMarked (mark g) (map serial_of queue') cs) (sym m) marks.1;
+      unmarked = w.unmarked;
+      unmade = w.unmade;
+      flight_marked = marks.0;
+      halts = w.halts;
+      posted =
+          let e : length bus.posted ≡ suc (length posted') = ap length o in
+          let s : recalls g + flights g + length bus.posted ≡ posts g = w.posted in omega arith;
+      grounded = λ h. absurd (let e : length deferred ≡ 0 = ap length d in omega arith);
+    }
+
+pub next_queued : (way : Way) (g : History) (x : Buffer) (xs : List Buffer) → Stands way g → way.bus.flight ≡ None → way.bus.queue ≡ x ∷ xs → IsNext g x.serial
+next_queued way g x xs w alone q =
+    let d : way.tx.deferred ≡ [] = none_deferred way.tx.deferred way.bus.queue way.bus.flight x xs w.queues.grounded q in
+    next_from g x.serial w.sound (w.queues.fly ∙ ap flight_serial alone)
+    (ap first (queue_waits way.tx.deferred way.bus x xs (waiting g) d q w.queues.wait))
+
+pub depart_stands : (way : Way) (g : History) (bus' : Bus) (trip : Trip) → Stands way g → Departs way.bus bus' trip
+    → Stands (record way { bus = bus' }) ((Flying way.lane trip.tx.serial, []) ∷ g)
+depart_stands way g bus' trip w dep =
+    let next = next_queued way g trip.tx bus'.queue w dep.alone dep.left in
+    let texts = subst (AllByRecursion (IsText (span g) (made_bytes g))) dep.left w.texts.queued_texts in
+    let stands : Stands (record way { bus = record way.bus { queue = bus'.queue; posted = bus'.posted; flight = Some (record_of trip); flight_mark = None } }) ((Flying way.lane trip.tx.serial, []) ∷ g) =
+    record {
+      sound = (next, w.sound);
+      placed = depart_placed way.lane way.tx way.rx way.bus trip dep.posted bus'.queue bus'.posted w.placed dep.alone dep.left dep.used dep.number dep.capacity;
+      building = w.building;
+      queues = depart_queues way.lane g way.tx.deferred way.bus trip dep.posted bus'.queue bus'.posted next w.queues dep.unmarked dep.left dep.used;
+      ends = w.ends;
+      counts = w.counts;
+      texts = record {
+        deferred_texts = w.texts.deferred_texts;
+        queued_texts = texts.1;
+        arrived_texts = w.texts.arrived_texts;
+        current_text = w.texts.current_text;
+        flight_span = texts.0.span_is;
+        some = w.texts.some;
+        whole = w.texts.whole;
+      };
+    } in
+    subst (λ b. Stands (record way { bus = b }) ((Flying way.lane trip.tx.serial, []) ∷ g)) (sym dep.rest) stands
+
+-- GIVING UP A MARKED TRANSFER
+
+pub queued_away : (lane : Lane) (t : Transmitter) (r : Receiver) (bus : Bus) (x : Buffer) (xs : List Buffer) → ArePlaced lane t r bus → bus.queue ≡ x ∷ xs → IsAwayTx t x
+queued_away lane t r bus x xs p q =
+    let queued = subst (AllByRecursion (IsTx t.size t.capacity)) q p.queued_are in
+    record {
+      known = queued.0.known;
+      sized = queued.0.sized;
+      away =
+          let e : copies x.number (map number_of bus.queue) ≡ one_if (eqb x.number x.number) + copies x.number (map number_of xs) = ap (λ ys. copies x.number (map number_of ys)) q in
+          let s : one_if (eqb x.number x.number) ≡ 1 = one_here x.number in
+          let w : tx_copies t x.number + (copies x.number (map number_of bus.queue) + copies x.number (flight_tx bus.flight)) ≤ 1 = p.tx_once x.number in omega arith;
+    }
+
+reap_placed : (lane : Lane) (t : Transmitter) (r : Receiver) (bus : Bus) (x : Buffer) (queue' : List Buffer) (marks' : List ℕ) → ArePlaced lane t r bus → bus.queue ≡ x ∷ queue'
+    → ArePlaced lane (record t { done = t.done ++ x ∷ [] }) r (record bus { queue = queue'; marks = marks' })
+reap_placed lane t r bus x queue' marks' p q =
+    let queued = subst (AllByRecursion (IsTx t.size t.capacity)) q p.queued_are in
+    record {
+      side = p.side;
+      one_params = p.one_params;
+      no_deferred = p.no_deferred;
+      tx_size_is = p.tx_size_is;
+      rx_size_is = p.rx_size_is;
+      tx_room_is = p.tx_room_is;
+      rx_room_is = p.rx_room_is;
+      largest_is = p.largest_is;
+      wide = p.wide;
+      tx_once = λ n.
+          let e : copies n (map number_of bus.queue) ≡ one_if (eqb n x.number) + copies n (map number_of queue') = ap (λ xs. copies n (map number_of xs)) q in
+          let d : copies n (map number_of (t.done ++ x ∷ [])) ≡ copies n (map number_of t.done) + one_if (eqb n x.number) = copies_more n t.done x in
+          let w : copies n t.home + copies n (option_to_list t.builder.claim) + copies n (map number_of t.deferred) + copies n (map number_of t.done) + (copies n (map number_of bus.queue) + copies n (flight_tx bus.flight)) ≤ 1 = p.tx_once n in omega arith;
+      rx_once = p.rx_once;
+      tx_all =
+          let e : length bus.queue ≡ suc (length queue') = ap length q in
+          let d : length (t.done ++ x ∷ []) ≡ length t.done + 1 = length_more t.done x in
+          let w : length t.home + length (option_to_list t.builder.claim) + length t.deferred + length t.done + length bus.queue + length (flight_tx bus.flight) ≡ t.size = p.tx_all in omega arith;
+      rx_all = p.rx_all;
+      deferred_are = p.deferred_are;
+      queued_are = queued.1;
+      posted_are = p.posted_are;
+      flight_is = p.flight_is;
+    }
+
+-- a cut of k, which waits
+module _ (l : Lane) (k c : ℕ) (g : History) (next : IsNext g k) where
+  pub cut_waiting : (ks : List ℕ) → waiting g ≡ k ∷ ks → waiting ((Cut l k c, []) ∷ g) ≡ ks
+  cut_waiting ks e = those_rest (waits g) (waits ((Cut l k c, []) ∷ g)) k cut_here cut_other (made g) ks e
+    where
+      cut_other : (j : ℕ) → (j ≡ k → ⊥) → waits ((Cut l k c, []) ∷ g) j ≡ waits g j
+      cut_other j ne = rw (apart k j ne) refl
+
+      or_last : (b : Bool) → not (b || true) ≡ false
+      or_last true = refl
+      or_last false = refl
+
+      cut_here : waits ((Cut l k c, []) ∷ g) k ≡ false
+      cut_here = rw (same_number k) (or_last (landed g k || failed g k))
+
+  pub cut_flying : flying ((Cut l k c, []) ∷ g) ≡ []
+  cut_flying = those_nothing (flies ((Cut l k c, []) ∷ g)) (λ j. rw (next.is_alone j) (and_false (not (k == j)))) (made g)
+
+reap_queues : (l : Lane) (g : History) (deferred : List Buffer) (bus : Bus) (x : Buffer) (queue' : List Buffer) (c : ℕ) (marks' : List ℕ) → IsNext g x.serial
+    → AreQueued deferred bus (waiting g) (flying g) (mark g) (halted g) (posts g) (recalls g) (flights g) (made g)
+    → bus.flight ≡ None → bus.queue ≡ x ∷ queue' → bus.marks ≡ c ∷ marks'
+    → (mark g x.serial ≡ Some c) × AreQueued deferred (record bus { queue = queue'; marks = marks' })
+    (waiting ((Cut l x.serial c, []) ∷ g)) (flying ((Cut l x.serial c, []) ∷ g)) (mark g) (halted g) (posts g) (recalls g) (flights g) (made g)
+reap_queues l g deferred bus x queue' c marks' next w alone q m =
+    let d : deferred ≡ [] = none_deferred deferred bus.queue bus.flight x queue' w.grounded q in
+    let marks : AreMarked (mark g) (x.serial ∷ map serial_of queue') (c ∷ marks') =
+    subst (λ cs. AreMarked (mark g) (x.serial ∷ map serial_of queue') cs) m (subst (λ xs. AreMarked (mark g) (map serial_of xs) bus.marks) q w.marked) in (
+      marks.0,
+      record {
+        wait = cut_waiting l x.serial c g next (map serial_of queue') (queue_waits deferred bus x queue' (waiting g) d q w.wait)
+            ∙ ap (λ ds. map serial_of ds ++ map serial_of queue') (sym d);
+        fly = cut_flying l x.serial c g next ∙ ap flight_serial (sym alone);
+        marked = marks.1;
+        unmarked = w.unmarked;
+        unmade = w.unmade;
+        flight_marked = w.flight_marked;
+        halts = w.halts;
+        posted = w.posted;
+        grounded = λ h. absurd (let e : length deferred ≡ 0 = ap length d in omega arith);
+      },
+    )
+
+pub reap_stands : (way : Way) (g : History) (bus' : Bus) (x : Buffer) (c : ℕ) → Stands way g → Reaps way.bus bus' x c
+    → Stands (record way { tx = record way.tx { done = way.tx.done ++ x ∷ [] }; bus = bus' }) ((Cut way.lane x.serial c, []) ∷ g)
+reap_stands way g bus' x c w rep =
+    let next = next_queued way g x bus'.queue w rep.alone rep.left in
+    let texts = subst (AllByRecursion (IsText (span g) (made_bytes g))) rep.left w.texts.queued_texts in
+    let queues = reap_queues way.lane g way.tx.deferred way.bus x bus'.queue c bus'.marks next w.queues rep.alone rep.left rep.marked in
+    let last : x.serial ≡ ends g = next_is g w.sound (in_order g w.sound) x.serial next in
+    let stands : Stands (record way { tx = record way.tx { done = way.tx.done ++ x ∷ [] }; bus = record way.bus { queue = bus'.queue; marks = bus'.marks } }) ((Cut way.lane x.serial c, []) ∷ g) =
+    record {
+      sound = (inr next, w.sound);
+      placed = reap_placed way.lane way.tx way.rx way.bus x bus'.queue bus'.marks w.placed rep.left;
+      building = w.building;
+      queues = queues.1;
+      ends = record {
+        done_is = finish_plus g w.sound x.serial last next.is_made (ended ((Cut way.lane x.serial c, []) ∷ g))
+            (rw (same_number x.serial) (or_true (landed g x.serial || failed g x.serial))) (λ j ne. rw (apart x.serial j ne) refl)
+            ∙ (ap (λ ks. ks ++ x.serial ∷ []) w.ends.done_is ∙ sym (map_last serial_of way.tx.done x));
+        arrived_is = w.ends.arrived_is;
+        current_is = w.ends.current_is;
+        left_is = w.ends.left_is;
+      };
+      counts = rw (next.is_alone x.serial) w.counts;
+      texts = record {
+        deferred_texts = w.texts.deferred_texts;
+        queued_texts = texts.1;
+        arrived_texts = w.texts.arrived_texts;
+        current_text = w.texts.current_text;
+        flight_span = w.texts.flight_span;
+        some = w.texts.some;
+        whole = w.texts.whole;
+      };
+    } in
+    subst (λ b. Stands (record way { tx = record way.tx { done = way.tx.done ++ x ∷ [] }; bus = b }) ((Cut way.lane x.serial c, []) ∷ g)) (sym rep.rest) stands
+  where
+    or_true : (a : Bool) → (a || (true || was_cut g x.serial)) ≡ true
+    or_true true = refl
+    or_true false = refl

@@ -1,0 +1,5 @@
+pub mod Way
+pub mod Stands
+pub mod Phases
+pub mod Answered
+pub mod Fresh
