@@ -19,3 +19,8 @@ abbrev pub Answered : Way → History → Outcome → Got Trip → Type 0
 Answered way g outcome (Part trip) = IsPart way g outcome trip
 Answered way g outcome Cut = (k : ℕ) × (c : ℕ) × (outcome ≡ Writes (bare (Line.Cut way.lane k c) ∷ []))
 Answered way g outcome (Not answer) = outcome ≡ Answers answer
+
+-- where no flight came, the one that is out is as it was
+abbrev pub KeepsFlight : Got Trip → Way → Way → Type 0
+KeepsFlight (Part trip) old new = Unit {0}
+KeepsFlight got old new = new.bus.flight ≡ old.bus.flight

@@ -34,6 +34,7 @@ impl<T: TxEnd + Drop, R: RxEnd + Drop> Path<T, R> {
         ensures answer { result ≡ answer_in (accept self.old.tx.params self.old.lane sender (with_frame self.old.tx frame.now) (lane_lines self.old journal.old)) }
         ensures stands { Stands self.new (lane_lines self.new journal.new) }
         ensures leaves { Builds asleep self.old self.new (offered self.old.tx frame.now result) (lane_lines self.old journal.old) (lane_lines self.new journal.new) }
+        ensures flight { self.new.bus.flight ≡ self.old.bus.flight }
     {
         let lane = self.lane;
         match self.tx.offer(frame, self.accepted, self.made) {
@@ -70,6 +71,7 @@ impl<T: TxEnd + Drop, R: RxEnd + Drop> Path<T, R> {
         ensures answer { result ≡ answer_in (tick_built self.old.tx.params self.old.lane self.old.tx.builder.frames (lane_lines self.old journal.old)) }
         ensures stands { Stands self.new (lane_lines self.new journal.new) }
         ensures leaves { Builds asleep self.old self.new self.old.tx.builder.frames (lane_lines self.old journal.old) (lane_lines self.new journal.new) }
+        ensures flight { self.new.bus.flight ≡ self.old.bus.flight }
     {
         let lane = self.lane;
         match self.tx.tick(self.made) {

@@ -4,7 +4,7 @@ ghost use Rattle.std.specs.Prelude.{◌≡◌, map, Some};
 ghost use Rattle.un_endpoint.specs.Bus.{record_of};
 ghost use Rattle.un_journal.specs.History.{made_bytes};
 ghost use Rattle.un_journal.specs.LaneSteps.{answer_in, clear_set, deliver_next, land_fault, lines_in, post, rx_done, take_queued, tx_done};
-ghost use Rattle.un_lane.specs.Answered.{Answered};
+ghost use Rattle.un_lane.specs.Answered.{Answered, KeepsFlight};
 ghost use Rattle.un_lane.specs.Phases.{Leaves};
 ghost use Rattle.un_lane.specs.Stands.{Stands, serial_of};
 ghost use Rattle.un_lane.specs.Way.{Adds, HasRoom, lane_lines};
@@ -25,6 +25,7 @@ impl<T: TxEnd + Drop, R: RxEnd + Drop> Path<T, R> {
         ensures answer { Answered self.new (lane_lines self.old journal.old) (take_queued asleep self.old.lane (lane_lines self.old journal.old) (map serial_of self.old.bus.queue)) result }
         ensures stands { Stands self.new (lane_lines self.new journal.new) }
         ensures leaves { Leaves self.old self.new }
+        ensures flight { KeepsFlight result self.old self.new }
     {
         let lane = self.lane;
         match self.bus.take(asleep) {
@@ -110,6 +111,7 @@ impl<T: TxEnd + Drop, R: RxEnd + Drop> Path<T, R> {
         ensures answer { result ≡ answer_in (tx_done self.old.lane (lane_lines self.old journal.old)) }
         ensures stands { Stands self.new (lane_lines self.new journal.new) }
         ensures leaves { Leaves self.old self.new }
+        ensures flight { self.new.bus.flight ≡ self.old.bus.flight }
     {
         let lane = self.lane;
         let serial = match self.tx.tx_done() {
@@ -128,6 +130,7 @@ impl<T: TxEnd + Drop, R: RxEnd + Drop> Path<T, R> {
         ensures answer { result ≡ answer_in (rx_done self.old.lane (lane_lines self.old journal.old)) }
         ensures stands { Stands self.new (lane_lines self.new journal.new) }
         ensures leaves { Leaves self.old self.new }
+        ensures flight { self.new.bus.flight ≡ self.old.bus.flight }
     {
         let lane = self.lane;
         let serial = match self.rx.rx_done() {
@@ -147,6 +150,7 @@ impl<T: TxEnd + Drop, R: RxEnd + Drop> Path<T, R> {
         ensures answer { result ≡ answer_in (deliver_next self.old.tx.params self.old.lane (lane_lines self.old journal.old)) }
         ensures stands { Stands self.new (lane_lines self.new journal.new) }
         ensures leaves { Leaves self.old self.new }
+        ensures flight { self.new.bus.flight ≡ self.old.bus.flight }
     {
         let lane = self.lane;
         match self.rx.lend() {
@@ -167,6 +171,7 @@ impl<T: TxEnd + Drop, R: RxEnd + Drop> Path<T, R> {
         ensures answer { result ≡ answer_in (post self.old.tx.params self.old.lane (lane_lines self.old journal.old)) }
         ensures stands { Stands self.new (lane_lines self.new journal.new) }
         ensures leaves { Leaves self.old self.new }
+        ensures flight { self.new.bus.flight ≡ self.old.bus.flight }
     {
         let lane = self.lane;
         match self.rx.refill() {
@@ -189,6 +194,7 @@ impl<T: TxEnd + Drop, R: RxEnd + Drop> Path<T, R> {
         ensures answer { result ≡ answer_in (clear_set self.old.lane (lane_lines self.old journal.old)) }
         ensures stands { Stands self.new (lane_lines self.new journal.new) }
         ensures leaves { Leaves self.old self.new }
+        ensures flight { self.new.bus.flight ≡ self.old.bus.flight }
     {
         let lane = self.lane;
         if !self.bus.clear() {
