@@ -12,3 +12,9 @@ pub mod Offering
 pub mod Sending
 pub mod Closing
 pub mod Starting
+pub mod Marking
+pub mod Recalling
+pub mod Cutting
+pub mod Dropping
+pub mod Looping
+pub mod Resuming

@@ -26,7 +26,7 @@ those_more p n e = rw (add-one, e) (append-nil (those p n))
 those_last : (p : ℕ → Bool) (n : ℕ) → p n ≡ true → those p (n + 1) ≡ those p n ++ n ∷ []
 those_last p n e = rw (add-one, e) refl
 
-those_below : (p : ℕ → Bool) (n : ℕ) → AllByRecursion (λ k. k < n) (those p n)
+pub those_below : (p : ℕ → Bool) (n : ℕ) → AllByRecursion (λ k. k < n) (those p n)
 those_below p n = upto n (omega arith)
   where
     joined : (xs ys : List ℕ) → AllByRecursion (λ k. k < n) xs → AllByRecursion (λ k. k < n) ys → AllByRecursion (λ k. k < n) (xs ++ ys)

@@ -3,3 +3,4 @@ pub mod Stands
 pub mod Phases
 pub mod Answered
 pub mod Fresh
+pub mod Controls

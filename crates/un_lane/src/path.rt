@@ -5,6 +5,7 @@ ghost use Rattle.un_lane.specs.Fresh.{AreFresh};
 ghost use Rattle.un_lane.specs.Stands.{Stands};
 
 mod building;
+mod control;
 mod moving;
 
 use std::alloc::{AllocError, Global};
