@@ -5,7 +5,7 @@ use Rattle.un_journal.specs.Log.{Log}
 use Rattle.un_lane.specs.Way.{Way, HasRoom, Adds, lane_lines}
 use Rattle.un_lane.specs.Phases.{Leaves}
 use Rattle.un_lane.specs.Stands.{Stands}
-use Rattle.un_lane.specs.Controls.{WritesFirst, WritesNone, LeavesBus}
+use Rattle.un_lane.specs.Controls.{WritesFirst, WritesNone, LeavesBus, Stays}
 use Rattle.un_lane.proofs.Adding.{adds_none, adds_more, room_rest}
 
 -- some of the lines that were left are written
@@ -70,3 +70,9 @@ bus_more a b c x y = record {
   builder_is = y.builder_is ∙ x.builder_is;
   bus_is = y.bus_is ∙ x.bus_is;
 }
+
+pub stays_same : (way : Way) → Stays way way
+stays_same way = record { leaves = leaves_same way; flight_is = refl }
+
+pub stays_more : (a b c : Way) → Stays a b → Stays b c → Stays a c
+stays_more a b c x y = record { leaves = leaves_more a b c x.leaves y.leaves; flight_is = y.flight_is ∙ x.flight_is }

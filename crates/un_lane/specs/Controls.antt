@@ -7,6 +7,7 @@ use Rattle.un_journal.specs.History.{Entry, History}
 use Rattle.un_journal.specs.Log.{Log}
 use Rattle.un_journal.specs.Step.{cut_each, dropped_built, marked_each, recalled_each}
 use Rattle.un_lane.specs.Way.{Way, Adds, lane_lines}
+use Rattle.un_lane.specs.Phases.{Leaves}
 use Rattle.un_lane.specs.Stands.{Stands, serial_of}
 
 -- the serial of the flight where it isn't marked
@@ -86,3 +87,8 @@ pub record LosesBuild (old new : Way) : Type 0 where
   pub none_built : new.tx.builder.frames ≡ []
   pub deferred_are : new.tx.deferred ≡ old.tx.deferred
   pub bus_is : new.bus ≡ old.bus
+
+-- what marking and recalling leave as it was: the flight that is out, too
+pub record Stays (old new : Way) : Type 0 where
+  pub leaves : Leaves old new
+  pub flight_is : new.bus.flight ≡ old.bus.flight

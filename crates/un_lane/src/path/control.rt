@@ -4,7 +4,7 @@ ghost use Rattle.std.specs.Prelude.{◌≡◌};
 ghost use Rattle.un_journal.specs.LaneSteps.{answer_in, lines_in, unlink_first};
 ghost use Rattle.un_journal.specs.History.{History};
 ghost use Rattle.un_journal.specs.Step.{dropped_built};
-ghost use Rattle.un_lane.specs.Controls.{LeavesBus, LosesBuild, Queues, Writes, deferred_lines, dropped_lines, posted_lines, resumed, settled, unmarked_in, unmarked_lines};
+ghost use Rattle.un_lane.specs.Controls.{LeavesBus, LosesBuild, Queues, Stays, Writes, deferred_lines, dropped_lines, posted_lines, resumed, settled, unmarked_in, unmarked_lines};
 ghost use Rattle.un_lane.specs.Phases.{IsDropped, Leaves};
 ghost use Rattle.un_lane.specs.Stands.{ArePlaced, Stands};
 ghost use Rattle.un_lane.specs.Way.{Adds, HasRoom, lane_lines};
@@ -24,6 +24,7 @@ impl<T: TxEnd + Drop, R: RxEnd + Drop> Path<T, R> {
         ensures answer { result ≡ answer_in (unlink_first self.old.lane cause (lane_lines self.old journal.old) (unmarked_in self.old.bus)) }
         ensures stands { Stands self.new (lane_lines self.new journal.new) }
         ensures leaves { Leaves self.old self.new }
+        ensures flight { self.new.bus.flight ≡ self.old.bus.flight }
     {
         let lane = self.lane;
         match self.bus.mark_oldest(cause) {
@@ -57,6 +58,7 @@ impl<T: TxEnd + Drop, R: RxEnd + Drop> Path<T, R> {
         ensures lines { Adds journal.old journal.new (unmarked_lines cause self.old) }
         ensures stands { Stands self.new (lane_lines self.new journal.new) }
         ensures leaves { Leaves self.old self.new }
+        ensures flight { self.new.bus.flight ≡ self.old.bus.flight }
     {
         while self.mark(journal, cause) {}
     }
@@ -80,6 +82,7 @@ impl<T: TxEnd + Drop, R: RxEnd + Drop> Path<T, R> {
         ensures lines { Adds journal.old journal.new (posted_lines self.old) }
         ensures stands { Stands self.new (lane_lines self.new journal.new) }
         ensures leaves { Leaves self.old self.new }
+        ensures flight { self.new.bus.flight ≡ self.old.bus.flight }
     {
         while self.recall(journal) {}
     }
@@ -119,7 +122,7 @@ impl<T: TxEnd + Drop, R: RxEnd + Drop> Path<T, R> {
     fn mark(&mut self, journal: &mut Journal, cause: u32) -> bool
         requires stands { Stands self.old (lane_lines self.old journal.old) }
         requires room { HasRoom journal.old (unmarked_lines cause self.old) }
-        ensures { Writes (unmarked_lines cause) Leaves self.old self.new journal.old journal.new result }
+        ensures { Writes (unmarked_lines cause) Stays self.old self.new journal.old journal.new result }
     {
         let lane = self.lane;
         let Some(serial) = self.bus.mark_oldest(cause) else {
@@ -167,7 +170,7 @@ impl<T: TxEnd + Drop, R: RxEnd + Drop> Path<T, R> {
     fn recall(&mut self, journal: &mut Journal) -> bool
         requires stands { Stands self.old (lane_lines self.old journal.old) }
         requires room { HasRoom journal.old (posted_lines self.old) }
-        ensures { Writes posted_lines Leaves self.old self.new journal.old journal.new result }
+        ensures { Writes posted_lines Stays self.old self.new journal.old journal.new result }
     {
         let lane = self.lane;
         match self.bus.recall() {
