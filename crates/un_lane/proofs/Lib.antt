@@ -18,3 +18,6 @@ pub mod Cutting
 pub mod Dropping
 pub mod Looping
 pub mod Resuming
+pub mod Lookups
+pub mod Stillness
+pub mod Numbering

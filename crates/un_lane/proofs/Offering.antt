@@ -55,7 +55,7 @@ closing_is way g frame w =
     ∙ (ap (λ i. closed_span way.tx.params way.lane (with_frame way.tx frame) i way.accepted) first
     ∙ ap (λ i. closed_span way.tx.params way.lane (with_frame way.tx frame) (cover g) i) last)
 
-needs_is : (params : Params) (lane : Lane) (g : History) (claim : Option ℕ) (closed : Option (ℕ × ℕ)) → is_some claim ≡ claims_when lane (packs params.class lane && nat_lt 0 (taken g - cover g) && took_last g)
+pub needs_is : (params : Params) (lane : Lane) (g : History) (claim : Option ℕ) (closed : Option (ℕ × ℕ)) → is_some claim ≡ claims_when lane (packs params.class lane && nat_lt 0 (taken g - cover g) && took_last g)
     → offer_needs_home params lane g closed ≡ frame_needs_home lane claim closed
 needs_is params Outward g claim closed e = ap not (sym e)
 needs_is params Inward g claim closed e = refl

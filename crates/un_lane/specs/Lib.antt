@@ -4,3 +4,4 @@ pub mod Phases
 pub mod Answered
 pub mod Fresh
 pub mod Controls
+pub mod Still

@@ -7,6 +7,7 @@ ghost use Rattle.un_lane.specs.Stands.{Stands};
 mod building;
 mod control;
 mod moving;
+mod readings;
 
 use std::alloc::{AllocError, Global};
 use std::marker::Model;
