@@ -75,7 +75,7 @@ plain_frames script w lane g g' p s = ap (λ n. drop n (datagrams script lane g'
 
 -- COVER
 
-sound_below : (lines g : History) → IsSound (onto lines g) → IsSound g
+pub sound_below : (lines g : History) → IsSound (onto lines g) → IsSound g
 sound_below [] g s = s
 sound_below (e ∷ lines) g s = (sound_below lines (e ∷ g) s).1
 

@@ -30,11 +30,18 @@ pub record Link : Type 0 where
   pub phase : Phase
   pub done : ℕ
 
--- The history is legal, and all that the link keeps is what the history says. There is room for all lines that may yet come.
+-- the history is legal, and there is room for all lines that may yet come
+pub record IsLogged (script : Script) (log : Log) : Type 0 where
+  pub legal : Legal script log.history
+  pub in_range : AreInRange script.params
+  pub agree : Agree script.params
+  pub lines_left : log.spare_lines + length log.history ≡ line_bound script
+  pub bytes_left : log.spare_bytes + bytes_in log.history ≡ byte_bound script
+  pub few : line_bound script < 2 ^ 63
+
+-- all that a link keeps is what its history says
 pub record Holds (link : Link) : Type 0 where
-  pub legal : Legal link.script link.log.history
-  pub in_range : AreInRange link.script.params
-  pub agree : Agree link.script.params
+  pub logged : IsLogged link.script link.log
   pub out_lane : link.out.lane ≡ Outward
   pub in_lane : link.inward.lane ≡ Inward
   pub out_keeps : Keeps link.script link.phase link.out (past Outward link.log.history)
@@ -43,9 +50,6 @@ pub record Holds (link : Link) : Type 0 where
   pub in_read_is : AreRead link.in_read (past Inward link.log.history)
   pub phase_is : link.phase ≡ phase_of link.script link.log.history
   pub done_is : link.done ≡ controls_done (reverse link.log.history)
-  pub lines_left : link.log.spare_lines + length link.log.history ≡ line_bound link.script
-  pub bytes_left : link.log.spare_bytes + bytes_in link.log.history ≡ byte_bound link.script
-  pub few : line_bound link.script < 2 ^ 63
 
 -- FLIGHTS
 

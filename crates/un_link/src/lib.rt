@@ -2,5 +2,9 @@
 #![tactic(auto)]
 
 mod cursors;
+mod link;
+mod offer;
 mod task;
 mod work;
+
+pub use link::LinkOver;
