@@ -1,0 +1,5 @@
+pub mod Frames
+pub mod Working
+pub mod Flying
+pub mod Holding
+pub mod Offers

@@ -1,0 +1,298 @@
+-- A path after an offer.
+use Rattle.std.proofs.Common.{◌≡◌, ◌≢◌, ◌⊎◌, inl, inr, ℕ, zero, suc, ◌+◌, ◌-◌, ◌<◌, ◌≤◌, ◌^◌, Bool, true, false, not, ◌&&◌, ◌||◌, ◌==◌, nat_lt, List, [], ◌∷◌, ◌++◌, length, drop, slice_get, unwrap_or, Option, Some, None, refl, sym, ap, ◌∙◌, subst, arith, append-nil, if◌then◌else◌}
+use Rattle.std.proofs.lemmas.List.{drop-append-le}
+use Rattle.std.proofs.lemmas.Bool.{ne_eqb}
+use Rattle.un_endpoint.specs.Ends.{Transmitter}
+use Rattle.un_frame.specs.declared.params.Lane.{Lane}
+use Rattle.un_frame.specs.declared.params.Lane.TheVariants.{Outward, Inward}
+use Rattle.un_frame.specs.declared.params.Params.{Params}
+use Rattle.un_frame.specs.declared.kinds.Phase.{Phase}
+use Rattle.un_frame.specs.declared.kinds.Verdict.{Verdict}
+use Rattle.un_frame.specs.declared.kinds.Verdict.TheVariants.{Take}
+use Rattle.un_frame.specs.Verdict.{verdict_of}
+use Rattle.un_endpoint.specs.EndOutcomes.{with_frame}
+use Rattle.un_journal.specs.declared.lines.Line.{Line}
+use Rattle.un_journal.specs.declared.lines.Line.TheVariants.{Took, Made, Refused}
+use Rattle.un_journal.specs.declared.actions.Answer.{Answer}
+use Rattle.un_journal.specs.Script.{Script, Frame, frames_of, Feeds, feed_list}
+use Rattle.un_journal.specs.History.{Entry, History, past, taken, cover, consumed, more_if}
+use Rattle.un_journal.specs.Log.{Log}
+use Rattle.un_frame.specs.Cut.{closed_span}
+use Rattle.un_journal.specs.Lookup.{tx_home, offer_needs_home, is_asleep, works, phase_of, built_frames, datagrams, feed_head, span_after_took}
+use Rattle.un_journal.specs.LaneSteps.{Outcome, Writes, Answers, lines_in, answer_in, bare, accept, made_lines}
+use Rattle.un_journal.specs.Step.{Work, work, judge, offer_head}
+use Rattle.un_journal.specs.Sound.{IsSound}
+use Rattle.un_journal.proofs.Formed.{count_datagrams}
+use Rattle.un_journal.proofs.LinkFacts.{past_short}
+use Rattle.un_journal.proofs.LaneFacts.{work_own, past_own}
+use Rattle.un_journal.proofs.Onto.{onto}
+use Rattle.un_journal.proofs.Steps.{own_past, same_lane_same}
+use Rattle.un_lane.specs.Way.{Way, HasRoom, Adds}
+use Rattle.un_lane.specs.Stands.{Stands}
+use Rattle.un_lane.specs.Phases.{Builds, offered}
+use Rattle.un_link.specs.declared.cursors.Cursors.{Cursors}
+use Rattle.un_link.specs.Keeps.{AreRead, Keeps, Does, cursor_at, advanced}
+use Rattle.un_link.proofs.Frames.{built_after, covers_onto}
+use Rattle.un_link.proofs.Working.{work_covers}
+
+-- FEEDS
+
+-- there are no senders but four
+no_sender : (feeds : Feeds) (n : ℕ) → unwrap_or (slice_get (feed_list feeds) (suc (suc (suc (suc n))))) [] ≡ []
+no_sender feeds n = refl
+
+no_frames : (script : Script) (lane : Lane) (n : ℕ) → frames_of script lane (suc (suc (suc (suc n)))) ≡ []
+no_frames script Outward n = no_sender script.outward n
+no_frames script Inward n = no_sender script.inward n
+
+nothing : (x y : ℕ) (frames : List Frame) → frames ≡ [] → slice_get frames x ≡ slice_get frames y
+nothing x y frames e = rw e refl
+
+-- a sender past the four is none of them
+past_four : (n k : ℕ) → k < 4 → (suc (suc (suc (suc n))) == k) ≡ false
+past_four n k low = ne_eqb (suc (suc (suc (suc n)))) k (λ e. absurd (omega (arith, e)))
+
+none_at : (c : Cursors) (n : ℕ) → cursor_at c (suc (suc (suc (suc n)))) ≡ 0
+none_at c n = rw (past_four n 0 (omega arith), past_four n 1 (omega arith), past_four n 2 (omega arith), past_four n 3 (omega arith)) refl
+
+none_advances : (c : Cursors) (n : ℕ) → advanced (suc (suc (suc (suc n)))) c ≡ c
+none_advances c n = rw (past_four n 0 (omega arith), past_four n 1 (omega arith), past_four n 2 (omega arith), past_four n 3 (omega arith)) refl
+
+-- the head of a feed is where its cursor stands
+pub head_is : (script : Script) (lane : Lane) (g : History) (c : Cursors) (s : ℕ) → AreRead c g → feed_head script lane g s ≡ slice_get (frames_of script lane s) (cursor_at c s)
+head_is script lane g c zero r = ap (slice_get (frames_of script lane zero)) (sym r.first)
+head_is script lane g c (suc zero) r = ap (slice_get (frames_of script lane (suc zero))) (sym r.second)
+head_is script lane g c (suc (suc zero)) r = ap (slice_get (frames_of script lane (suc (suc zero)))) (sym r.third)
+head_is script lane g c (suc (suc (suc zero))) r = ap (slice_get (frames_of script lane (suc (suc (suc zero))))) (sym r.fourth)
+head_is script lane g c (suc (suc (suc (suc n)))) r = nothing _ _ (frames_of script lane (suc (suc (suc (suc n))))) (no_frames script lane n)
+
+one_more : (b : Bool) (n : ℕ) → more_if b n ≤ n + 1
+one_more true n = omega arith
+one_more false n = omega arith
+
+consumed_short : (g : History) (s : ℕ) → consumed g s ≤ length g
+consumed_short [] s = omega arith
+consumed_short ((Took l j, bytes) ∷ g) s = let w : consumed g s ≤ length g = consumed_short g s in let m : more_if (j == s) (consumed g s) ≤ consumed g s + 1 = one_more (j == s) (consumed g s) in omega arith
+consumed_short ((Refused l j why, bytes) ∷ g) s = let w : consumed g s ≤ length g = consumed_short g s in let m : more_if (j == s) (consumed g s) ≤ consumed g s + 1 = one_more (j == s) (consumed g s) in omega arith
+consumed_short (e ∷ g) s = let w : consumed g s ≤ length g = consumed_short g s in omega arith
+
+-- no cursor is near its type's end
+pub cursor_small : (c : Cursors) (lane : Lane) (log : Log) (lines : History) (s : ℕ) → AreRead c (past lane log.history) → HasRoom log lines → cursor_at c s + 1 < 2 ^ 64
+cursor_small c lane log lines s r room = go s
+  where
+    small : (n m : ℕ) → n ≡ consumed (past lane log.history) m → n + 1 < 2 ^ 64
+    small n m e =
+        let a : consumed (past lane log.history) m ≤ length (past lane log.history) = consumed_short (past lane log.history) m in
+        let b : length (past lane log.history) ≤ length log.history = past_short lane log.history in
+        let f : length log.history + length lines < 2 ^ 63 = room.counts_fit in
+        omega arith
+
+    go : (s : ℕ) → cursor_at c s + 1 < 2 ^ 64
+    go zero = small c.first 0 r.first
+    go (suc zero) = small c.second 1 r.second
+    go (suc (suc zero)) = small c.third 2 r.third
+    go (suc (suc (suc zero))) = small c.fourth 3 r.fourth
+    go (suc (suc (suc (suc n)))) = let e : cursor_at c (suc (suc (suc (suc n)))) ≡ 0 = none_at c n in omega arith
+
+-- a line that consumes a frame of the sender moves its cursor
+pub advanced_read : (c : Cursors) (g g' : History) (s : ℕ) → AreRead c g → ((j : ℕ) → consumed g' j ≡ more_if (s == j) (consumed g j)) → AreRead (advanced s c) g'
+advanced_read c g g' zero r w = record { first = ap (λ n. n + 1) r.first ∙ sym (w 0); second = r.second ∙ sym (w 1); third = r.third ∙ sym (w 2); fourth = r.fourth ∙ sym (w 3) }
+advanced_read c g g' (suc zero) r w = record { first = r.first ∙ sym (w 0); second = ap (λ n. n + 1) r.second ∙ sym (w 1); third = r.third ∙ sym (w 2); fourth = r.fourth ∙ sym (w 3) }
+advanced_read c g g' (suc (suc zero)) r w = record { first = r.first ∙ sym (w 0); second = r.second ∙ sym (w 1); third = ap (λ n. n + 1) r.third ∙ sym (w 2); fourth = r.fourth ∙ sym (w 3) }
+advanced_read c g g' (suc (suc (suc zero))) r w = record { first = r.first ∙ sym (w 0); second = r.second ∙ sym (w 1); third = r.third ∙ sym (w 2); fourth = ap (λ n. n + 1) r.fourth ∙ sym (w 3) }
+advanced_read c g g' (suc (suc (suc (suc n)))) r w =
+    subst (λ i. AreRead i g') (sym (none_advances c n)) (record {
+      first = r.first ∙ sym (w 0 ∙ ap (λ b. more_if b (consumed g 0)) (past_four n 0 (omega arith)));
+      second = r.second ∙ sym (w 1 ∙ ap (λ b. more_if b (consumed g 1)) (past_four n 1 (omega arith)));
+      third = r.third ∙ sym (w 2 ∙ ap (λ b. more_if b (consumed g 2)) (past_four n 2 (omega arith)));
+      fourth = r.fourth ∙ sym (w 3 ∙ ap (λ b. more_if b (consumed g 3)) (past_four n 3 (omega arith)));
+    })
+
+-- AN OFFER THAT IS TAKEN
+
+-- the frames with the new one are the built ones after the took line
+pub took_frames : (script : Script) (way : Way) (g : History) (sender : ℕ) (frame : Frame) → Stands way g → way.tx.builder.frames ≡ built_frames script way.lane g
+    → feed_head script way.lane g sender ≡ Some frame
+    → with_frame way.tx frame ≡ built_frames script way.lane (bare (Took way.lane sender) ∷ g)
+took_frames script way g sender frame w e head =
+    let c : cover g + length way.tx.builder.frames ≡ taken g = w.building.covered in
+    let n : length (datagrams script way.lane g) ≡ taken g = count_datagrams script way.lane g in
+    let low : cover g ≤ length (datagrams script way.lane g) = omega arith in
+    ap (λ fs. fs ++ frame ∷ []) e
+    ∙ (sym (drop-append-le (cover g) (datagrams script way.lane g) (frame ∷ []) low)
+    ∙ ap (λ f. drop (cover g) (datagrams script way.lane g ++ f ∷ [])) (sym (ap (λ o. unwrap_or o []) head)))
+
+-- what an offer does in a phase that takes frames
+pub offer_is : (script : Script) (h : History) (lane : Lane) (sender : ℕ) (frame : Frame) (verdict : Verdict) → works (phase_of script h) ≡ true → feed_head script lane (past lane h) sender ≡ Some frame
+    → verdict_of script.params lane frame ≡ verdict → work script h (Work.Offer lane sender) ≡ judge script lane sender (past lane h) verdict
+offer_is script h lane sender frame verdict w head v = ap (offer_head script (phase_of script h) lane sender (past lane h)) head ∙ (go (works (phase_of script h)) w ∙ ap (judge script lane sender (past lane h)) v)
+  where
+    go : (b : Bool) → b ≡ true → (if b then judge script lane sender (past lane h) (verdict_of script.params lane frame) else Answers (Answer.Down (phase_of script h))) ≡ judge script lane sender (past lane h) (verdict_of script.params lane frame)
+    go true e = refl
+    go false e = absurd (cc)
+
+-- the outcome in the path's own words
+pub accept_is : (script : Script) (phase : Phase) (way : Way) (h : History) (sender : ℕ) (frame : Frame) → Keeps script phase way (past way.lane h) → phase ≡ phase_of script h → works phase ≡ true
+    → feed_head script way.lane (past way.lane h) sender ≡ Some frame → verdict_of script.params way.lane frame ≡ Take
+    → work script h (Work.Offer way.lane sender) ≡ accept way.tx.params way.lane sender (with_frame way.tx frame) (past way.lane h)
+accept_is script phase way h sender frame k p w head v =
+    offer_is script h way.lane sender frame Take (ap works (sym p) ∙ w) head v
+    ∙ (ap (λ fs. accept script.params way.lane sender fs (past way.lane h)) (sym (took_frames script way (past way.lane h) sender frame k.stands k.frames_are head))
+    ∙ ap (λ ps. accept ps way.lane sender (with_frame way.tx frame) (past way.lane h)) (sym k.params_are))
+
+-- an offer that is to be taken is busy, or writes a took line and perhaps a made line
+data Accepts (params : Params) (lane : Lane) (sender : ℕ) (frames : List Frame) (g : History) : Outcome → Type 0 where
+  busy : Accepts params lane sender frames g (Answers Answer.Busy)
+  took : (closed : Option (ℕ × ℕ)) → Accepts params lane sender frames g (Writes (bare (Took lane sender) ∷ made_lines params lane frames (bare (Took lane sender) ∷ g) closed))
+
+accepts : (params : Params) (lane : Lane) (sender : ℕ) (frames : List Frame) (g : History) → Accepts params lane sender frames g (accept params lane sender frames g)
+accepts params lane sender frames g = go (offer_needs_home params lane g (closed_span params lane frames (cover g) (taken g + 1 - 1)) && tx_home params lane g == 0)
+  where
+    go : (b : Bool) → Accepts params lane sender frames g (if b then Answers Answer.Busy else Writes (bare (Took lane sender) ∷ made_lines params lane frames (bare (Took lane sender) ∷ g) (closed_span params lane frames (cover g) (taken g + 1 - 1))))
+    go true = busy
+    go false = took (closed_span params lane frames (cover g) (taken g + 1 - 1))
+
+made_datagrams : (script : Script) (lane : Lane) (params : Params) (frames : List Frame) (g : History) (closed : Option (ℕ × ℕ)) → datagrams script lane (onto (made_lines params lane frames g closed) g) ≡ datagrams script lane g
+made_datagrams script lane params frames g None = refl
+made_datagrams script lane params frames g (Some s) = refl
+
+made_consumed : (lane : Lane) (params : Params) (frames : List Frame) (g : History) (closed : Option (ℕ × ℕ)) (j : ℕ) → consumed (onto (made_lines params lane frames g closed) g) j ≡ consumed g j
+made_consumed lane params frames g None j = refl
+made_consumed lane params frames g (Some s) j = refl
+
+-- what is built after an offer
+accept_frames : (script : Script) (lane : Lane) (sender : ℕ) (frames frames' : List Frame) (params : Params) (g g' : History) (o : Outcome) (t : Transmitter) (frame : Frame) (answer : Answer)
+    → Accepts params lane sender frames g o → g' ≡ onto (lines_in o) g → answer ≡ answer_in o → cover g ≤ cover g'
+    → t.builder.frames ≡ built_frames script lane g → with_frame t frame ≡ built_frames script lane (bare (Took lane sender) ∷ g)
+    → drop (cover g' - cover g) (offered t frame answer) ≡ built_frames script lane g'
+accept_frames script lane sender frames frames' params g g' o t frame answer busy p e low now more =
+    rw e (built_after (cover g) (cover g') t.builder.frames (datagrams script lane g') low (now ∙ ap (λ i. drop (cover g) (datagrams script lane i)) (sym p)))
+accept_frames script lane sender frames frames' params g g' o t frame answer (took closed) p e low now more =
+    rw e (built_after (cover g) (cover g') (with_frame t frame) (datagrams script lane g') low
+    (more ∙ ap (drop (cover g)) (sym (ap (datagrams script lane) p ∙ made_datagrams script lane params frames (bare (Took lane sender) ∷ g) closed))))
+
+pub accept_does : (script : Script) (phase : Phase) (old new : Way) (log log' : Log) (sender : ℕ) (frame : Frame) (answer : Answer)
+    → Keeps script phase old (past old.lane log.history) → phase ≡ phase_of script log.history → works phase ≡ true
+    → feed_head script old.lane (past old.lane log.history) sender ≡ Some frame → verdict_of script.params old.lane frame ≡ Take
+    → Adds log log' (lines_in (accept old.tx.params old.lane sender (with_frame old.tx frame) (past old.lane log.history)))
+    → answer ≡ answer_in (accept old.tx.params old.lane sender (with_frame old.tx frame) (past old.lane log.history))
+    → Stands new (past new.lane log'.history)
+    → Builds (is_asleep phase) old new (offered old.tx frame answer) (past old.lane log.history) (past new.lane log'.history)
+    → new.bus.flight ≡ old.bus.flight
+    → Does script phase (Work.Offer old.lane sender) old new log log' answer
+accept_does script phase old new log log' sender frame answer k p w head v a e s l f =
+    let g = past old.lane log.history in
+    let o = accept_is script phase old log.history sender frame k p w head v in
+    let adds = subst (λ o. Adds log log' (lines_in o)) (sym o) a in
+    let own : past new.lane log'.history ≡ past old.lane log'.history = ap (λ lane. past lane log'.history) l.lane_is in
+    let sound : IsSound (past old.lane log'.history) = subst IsSound own s.sound in
+    let low = work_covers script log.history log'.history (Work.Offer old.lane sender) old.lane refl adds.history_is sound in
+    let longer : past old.lane log'.history ≡ onto (lines_in (accept old.tx.params old.lane sender (with_frame old.tx frame) g)) g =
+    ap (past old.lane) adds.history_is ∙ (past_own old.lane log.history (lines_in (work script log.history (Work.Offer old.lane sender))) (work_own script log.history (Work.Offer old.lane sender) old.lane refl).own ∙ ap (λ o. onto (lines_in o) g) o) in
+    record {
+      adds = adds;
+      answers = e ∙ ap answer_in (sym o);
+      lane_is = l.lane_is;
+      keeps = record {
+        params_are = l.params_are ∙ k.params_are;
+        stands = s;
+        agrees = l.agrees;
+        frames_are = l.frames_are ∙ (subst (λ g'. drop (cover g' - cover g) (offered old.tx frame answer) ≡ built_frames script old.lane g') (sym own)
+            (accept_frames script old.lane sender (with_frame old.tx frame) [] old.tx.params g (past old.lane log'.history) _ old.tx frame answer
+            (accepts old.tx.params old.lane sender (with_frame old.tx frame) g) longer e low k.frames_are (took_frames script old g sender frame k.stands k.frames_are head))
+            ∙ ap (λ lane. built_frames script lane (past new.lane log'.history)) (sym l.lane_is));
+      };
+      flight_is = f;
+    }
+
+-- the feeds after an offer that is to be taken: its sender's cursor moves where it was taken
+accept_reads : (params : Params) (lane : Lane) (sender : ℕ) (frames : List Frame) (g : History) (o : Outcome) → Accepts params lane sender frames g o → answer_in o ≡ Answer.Did → (j : ℕ) → consumed (onto (lines_in o) g) j ≡ more_if (sender == j) (consumed g j)
+accept_reads params lane sender frames g o busy e j = absurd (cc)
+accept_reads params lane sender frames g o (took closed) e j = made_consumed lane params frames (bare (Took lane sender) ∷ g) closed j
+
+accept_keeps : (params : Params) (lane : Lane) (sender : ℕ) (frames : List Frame) (g : History) (o : Outcome) → Accepts params lane sender frames g o → (answer_in o ≡ Answer.Did → ⊥) → lines_in o ≡ []
+accept_keeps params lane sender frames g o busy n = refl
+accept_keeps params lane sender frames g o (took closed) n = absurd (n refl)
+
+-- the lane's lines after it
+accept_onto : (script : Script) (phase : Phase) (old : Way) (log log' : Log) (sender : ℕ) (frame : Frame)
+    → Keeps script phase old (past old.lane log.history) → phase ≡ phase_of script log.history → works phase ≡ true
+    → feed_head script old.lane (past old.lane log.history) sender ≡ Some frame → verdict_of script.params old.lane frame ≡ Take
+    → log'.history ≡ log.history ++ lines_in (accept old.tx.params old.lane sender (with_frame old.tx frame) (past old.lane log.history))
+    → past old.lane log'.history ≡ onto (lines_in (accept old.tx.params old.lane sender (with_frame old.tx frame) (past old.lane log.history))) (past old.lane log.history)
+accept_onto script phase old log log' sender frame k p w head v e =
+    let o = accept_is script phase old log.history sender frame k p w head v in
+    ap (past old.lane) (e ∙ ap (λ o. log.history ++ lines_in o) (sym o))
+    ∙ (past_own old.lane log.history (lines_in (work script log.history (Work.Offer old.lane sender))) (work_own script log.history (Work.Offer old.lane sender) old.lane refl).own ∙ ap (λ o. onto (lines_in o) (past old.lane log.history)) o)
+
+pub accept_advances : (script : Script) (phase : Phase) (old : Way) (log log' : Log) (c : Cursors) (sender : ℕ) (frame : Frame) (answer : Answer)
+    → Keeps script phase old (past old.lane log.history) → phase ≡ phase_of script log.history → works phase ≡ true
+    → feed_head script old.lane (past old.lane log.history) sender ≡ Some frame → verdict_of script.params old.lane frame ≡ Take
+    → log'.history ≡ log.history ++ lines_in (accept old.tx.params old.lane sender (with_frame old.tx frame) (past old.lane log.history))
+    → answer ≡ answer_in (accept old.tx.params old.lane sender (with_frame old.tx frame) (past old.lane log.history)) → answer ≡ Answer.Did
+    → AreRead c (past old.lane log.history) → AreRead (advanced sender c) (past old.lane log'.history)
+accept_advances script phase old log log' c sender frame answer k p w head v e a did r =
+    advanced_read c (past old.lane log.history) (past old.lane log'.history) sender r
+    (λ j. ap (λ g. consumed g j) (accept_onto script phase old log log' sender frame k p w head v e)
+    ∙ accept_reads old.tx.params old.lane sender (with_frame old.tx frame) (past old.lane log.history) _ (accepts old.tx.params old.lane sender (with_frame old.tx frame) (past old.lane log.history)) (sym a ∙ did) j)
+
+pub accept_stays : (old : Way) (log log' : Log) (c : Cursors) (sender : ℕ) (frame : Frame) (answer : Answer)
+    → log'.history ≡ log.history ++ lines_in (accept old.tx.params old.lane sender (with_frame old.tx frame) (past old.lane log.history))
+    → answer ≡ answer_in (accept old.tx.params old.lane sender (with_frame old.tx frame) (past old.lane log.history)) → (answer ≡ Answer.Did → ⊥)
+    → AreRead c (past old.lane log.history) → AreRead c (past old.lane log'.history)
+accept_stays old log log' c sender frame answer e a not_did r =
+    let none = accept_keeps old.tx.params old.lane sender (with_frame old.tx frame) (past old.lane log.history) _ (accepts old.tx.params old.lane sender (with_frame old.tx frame) (past old.lane log.history)) (λ d. not_did (a ∙ d)) in
+    subst (λ h. AreRead c (past old.lane h)) (sym (e ∙ (ap (λ ls. log.history ++ ls) none ∙ append-nil log.history))) r
+
+-- A FRAME THAT IS REFUSED
+
+pub refuse_is : (script : Script) (h : History) (lane : Lane) (sender : ℕ) (frame : Frame) (why : Verdict) → works (phase_of script h) ≡ true → feed_head script lane (past lane h) sender ≡ Some frame
+    → verdict_of script.params lane frame ≡ why → why ≢ Take → work script h (Work.Offer lane sender) ≡ Writes (bare (Refused lane sender why) ∷ [])
+refuse_is script h lane sender frame why w head v n = offer_is script h lane sender frame why w head v ∙ go why n
+  where
+    go : (why : Verdict) → why ≢ Take → judge script lane sender (past lane h) why ≡ Writes (bare (Refused lane sender why) ∷ [])
+    go Verdict.Take n = absurd (n refl)
+    go Verdict.Short n = refl
+    go Verdict.Long n = refl
+    go Verdict.Filtered n = refl
+
+-- a refused line changes nothing but the sender's feed
+refused_stands : (way : Way) (lane : Lane) (sender : ℕ) (why : Verdict) (g : History) → Stands way g → Stands way (bare (Refused lane sender why) ∷ g)
+refused_stands way lane sender why g w = record {
+  sound = (tt, w.sound);
+  placed = w.placed;
+  building = w.building;
+  queues = w.queues;
+  ends = w.ends;
+  counts = w.counts;
+  texts = w.texts;
+}
+
+pub refuse_does : (script : Script) (phase : Phase) (way : Way) (log log' : Log) (lane : Lane) (sender : ℕ) (frame : Frame) (why : Verdict) → way.lane ≡ lane
+    → Keeps script phase way (past lane log.history) → phase ≡ phase_of script log.history → works phase ≡ true
+    → feed_head script lane (past lane log.history) sender ≡ Some frame → verdict_of script.params lane frame ≡ why → why ≢ Take
+    → Adds log log' (bare (Refused lane sender why) ∷ [])
+    → Does script phase (Work.Offer lane sender) way way log log' Answer.Did
+refuse_does script phase way log log' lane sender frame why at k p w head v n a =
+    let o = refuse_is script log.history lane sender frame why (ap works (sym p) ∙ w) head v n in
+    let longer : past way.lane log'.history ≡ bare (Refused lane sender why) ∷ past lane log.history = ap (λ l. past l log'.history) at ∙ (ap (past lane) a.history_is ∙ own_past log.history (bare (Refused lane sender why)) lane (same_lane_same lane)) in
+    record {
+      adds = subst (λ o. Adds log log' (lines_in o)) (sym o) a;
+      answers = ap answer_in (sym o);
+      lane_is = refl;
+      keeps = subst (Keeps script phase way) (sym longer) (record {
+        params_are = k.params_are;
+        stands = refused_stands way lane sender why (past lane log.history) k.stands;
+        agrees = k.agrees;
+        frames_are = k.frames_are;
+      });
+      flight_is = refl;
+    }
+
+pub refuse_reads : (log log' : Log) (c : Cursors) (lane : Lane) (sender : ℕ) (why : Verdict) → log'.history ≡ log.history ++ bare (Refused lane sender why) ∷ [] → AreRead c (past lane log.history) → AreRead (advanced sender c) (past lane log'.history)
+refuse_reads log log' c lane sender why e r =
+    advanced_read c (past lane log.history) (past lane log'.history) sender r
+    (λ j. ap (λ g. consumed g j) (ap (past lane) e ∙ own_past log.history (bare (Refused lane sender why)) lane (same_lane_same lane)))
+
+pub pushed : (log log' : Log) (line : Line) → log'.history ≡ log.history ++ bare line ∷ [] → log'.spare_lines + 1 ≡ log.spare_lines → log'.spare_bytes + 0 ≡ log.spare_bytes → Adds log log' (bare line ∷ [])
+pushed log log' line e l b = record { history_is = e; lines_left = l; bytes_left = omega (arith, b) }
