@@ -2,13 +2,18 @@
 use Rattle.std.proofs.Common.{ℕ, ◌≤◌, ◌≡◌, ◌↔◌, List, ◌++◌, length, Option, Some, None, Result, Ok, Err, inl, inr, refl, sym, ap, subst, ◌∙◌, arith, length-append, append-nil}
 use Rattle.std.specs.Io.KnownBytes.{Appends, Consumes, IsAtEnd}
 use Rattle.un_frame.specs.declared.params.Class.{Class}
+use Rattle.un_frame.specs.Params.{Agree}
 use Rattle.un_frame.specs.Wire.{Reads}
 use Rattle.un_journal.specs.Script.{Script}
-use Rattle.un_script.specs.declared.first.FirstWhy.{FirstWhy}
-use Rattle.un_script.specs.First.{first_script_of}
+use Rattle.un_journal.specs.History.{History}
+use Rattle.un_journal.specs.Drain.{drain}
+use Rattle.un_script.specs.declared.why.Why.{Why}
+use Rattle.un_script.specs.Reading.{script_of}
+use Rattle.un_setup.specs.declared.agreement.Agreed.{Agreed}
 use Rattle.un_wire.proofs.CursorLemmas.{readings_are_one}
-use Rattle.usbnet_run.specs.Command.{DecodeIsComplete, IsComplete, IsNoScript, RefusalsAreExact, bad_script, bad_words, decodes, done, no_memory, read_fault, too_large, write_fault}
+use Rattle.usbnet_run.specs.Command.{DecodeIsComplete, IsComplete, IsDrained, IsUnagreed, Prints, RefusalsAreExact, bad_words, decodes, no_memory, read_fault, runs, too_large}
 use Rattle.usbnet_run.specs.Decode.{IsOutside, bad_transfer, decoded, decoded_text, stopped}
+use Rattle.usbnet_run.specs.Runs.{IsNoScript, IsRun, not_a_script, not_agreed, output, print_stopped, printed, refused, wants_memory}
 use Rattle.usbnet_run.specs.Words.{command_of}
 use Rattle.usbnet_run.specs.declared.words.Command.{Command}
 use Rattle.usbnet_run.specs.declared.words.Command.TheVariants.{Serial, Decode}
@@ -22,8 +27,11 @@ gave_some : (text given : List ℕ) (left : Option (List ℕ)) → Consumes (Som
 gave_some text given None c = absurd c
 gave_some text given (Some rest) c = let size = length-append given rest in let same = ap length c in omega (arith, size, same)
 
-no_script : (script : Script) (bad : ℕ × FirstWhy) (read : Result Script (ℕ × FirstWhy)) → read ≡ Ok script → read ≡ Err bad → ⊥
+no_script : (script : Script) (bad : ℕ × Why) (read : Result Script (ℕ × Why)) → read ≡ Ok script → read ≡ Err bad → ⊥
 no_script script bad read a b = cc
+
+one_script : (script other : Script) (read : Result Script (ℕ × Why)) → read ≡ Ok script → read ≡ Ok other → script ≡ other
+one_script script other read a b = cc
 
 -- words ask for one thing
 is_none : (asked : Option Command) (command : Command) → asked ≡ Some command → asked ≡ None → ⊥
@@ -37,16 +45,33 @@ one_class asked class other a b = cc
 
 -- COMPLETENESS
 
+-- what was read of the whole text is the script
+script_read : (text given : List ℕ) (left : Option (List ℕ)) (script : Script) → Consumes (Some text) left given → IsAtEnd left → script_of text ≡ Ok script → script_of given ≡ Ok script
+script_read text given left script c whole is = ap script_of (sym (gave_all text given left c whole)) ∙ is
+
+-- what was printed belongs to the script
+is_printed : (script other : Script) (agreed : Agreed) (history : History) (given : List ℕ) (held held' : Option (List ℕ)) → script_of given ≡ Ok script → IsRun IsDrained given other agreed history
+    → Appends held held' (output other agreed history) → Prints script held held'
+is_printed script other agreed history given held held' is run t =
+    let same : other ≡ script = one_script other script (script_of given) run.script_is is in
+    let P : Script → Type 0 = λ s. Prints s held held' in
+    subst P same (record { agreed = agreed; agreed_is = run.agreed_is; all = subst (λ h. Appends held held' (output other agreed h)) run.ends_with t })
+
 pub complete : IsComplete
-complete words text given left held held' faults faults' script _ (done s h w whole r t) c serial few is a b = inl (refl, sym (gave_all text given left c whole.0))
-complete words text given left held held' faults faults' script _ (decodes class status w whole ends) c serial few is a b = absurd (two_ways (command_of words) class serial w)
-complete words text given left held held' faults faults' script _ (no_memory command w t) c serial few is a b = inr refl
-complete words text given left held held' faults faults' script _ (read_fault command w size t) c serial few is a b = absurd (a refl)
-complete words text given left held held' faults faults' script _ (write_fault s h w whole r t) c serial few is a b = absurd (b refl)
-complete words text given left held held' faults faults' script _ (bad_words w g t) c serial few is a b = absurd (is_none (command_of words) Serial serial w)
-complete words text given left held held' faults faults' script _ (bad_script line why w whole r t) c serial few is a b =
-    absurd (no_script script (line, why) (first_script_of given) (ap first_script_of (sym (gave_all text given left c whole.0)) ∙ is) r)
-complete words text given left held held' faults faults' script _ (too_large command w size t) c serial few is a b =
+complete words text given left held held' faults faults' script _ (runs _ w whole (printed other agreed history run t)) c serial few is agree a b =
+    inl (refl, sym (gave_all text given left c whole.0), is_printed script other agreed history given held held' (script_read text given left script c whole.0 is) run t)
+complete words text given left held held' faults faults' script _ (runs _ w whole (refused _ (wants_memory t))) c serial few is agree a b = inr refl
+complete words text given left held held' faults faults' script _ (runs _ w whole (print_stopped other agreed history run t)) c serial few is agree a b = absurd (b refl)
+complete words text given left held held' faults faults' script _ (runs _ w whole (refused _ (not_a_script line why r t))) c serial few is agree a b =
+    absurd (no_script script (line, why) (script_of given) (script_read text given left script c whole.0 is) r)
+complete words text given left held held' faults faults' script _ (runs _ w whole (refused _ (not_agreed other fault r s not t))) c serial few is agree a b =
+    let same : script ≡ other = one_script script other (script_of given) (script_read text given left script c whole.0 is) r in
+    absurd (not (subst (λ (x : Script). Agree x.params) same agree))
+complete words text given left held held' faults faults' script _ (decodes class status w whole ends) c serial few is agree a b = absurd (two_ways (command_of words) class serial w)
+complete words text given left held held' faults faults' script _ (no_memory command w t) c serial few is agree a b = inr refl
+complete words text given left held held' faults faults' script _ (read_fault command w size t) c serial few is agree a b = absurd (a refl)
+complete words text given left held held' faults faults' script _ (bad_words w g t) c serial few is agree a b = absurd (is_none (command_of words) Serial serial w)
+complete words text given left held held' faults faults' script _ (too_large command w size t) c serial few is agree a b =
     let some = gave_some text given left c in absurd (omega (arith, some))
 
 -- what the bytes are read as, by the words' class and the source's whole text
@@ -61,7 +86,7 @@ text_of : (class other : Class) (frames others : List (List ℕ)) (commands more
 text_of class other frames others commands more a b c = sym (ap (λ k. decoded_text k frames commands) a ∙ ap (λ fs. decoded_text other fs commands) b ∙ ap (λ n. decoded_text other others n) c)
 
 pub decode_complete : DecodeIsComplete
-decode_complete words text given left held held' faults faults' class frames commands _ (done s h w whole r t) c decode few is a b = absurd (two_ways (command_of words) class w decode)
+decode_complete words text given left held held' faults faults' class frames commands _ (runs status w whole ends) c decode few is a b = absurd (two_ways (command_of words) class w decode)
 decode_complete words text given left held held' faults faults' class frames commands _ (decodes other _ w whole (decoded others more r t)) c decode few is a b =
     let same = gave_all text given left c whole.0 in
     let one = readings_are_one other given frames others commands more (reads_as (command_of words) class other text given frames commands decode w same is) r in
@@ -72,9 +97,7 @@ decode_complete words text given left held held' faults faults' class frames com
     absurd (out frames commands (reads_as (command_of words) class other text given frames commands decode w (gave_all text given left c whole.0) is))
 decode_complete words text given left held held' faults faults' class frames commands _ (no_memory command w t) c decode few is a b = inr refl
 decode_complete words text given left held held' faults faults' class frames commands _ (read_fault command w size t) c decode few is a b = absurd (a refl)
-decode_complete words text given left held held' faults faults' class frames commands _ (write_fault s h w whole r t) c decode few is a b = absurd (b refl)
 decode_complete words text given left held held' faults faults' class frames commands _ (bad_words w g t) c decode few is a b = absurd (is_none (command_of words) (Decode class) decode w)
-decode_complete words text given left held held' faults faults' class frames commands _ (bad_script line why w whole r t) c decode few is a b = absurd (two_ways (command_of words) class w decode)
 decode_complete words text given left held held' faults faults' class frames commands _ (too_large command w size t) c decode few is a b =
     let some = gave_some text given left c in absurd (omega (arith, some))
 
@@ -83,8 +106,14 @@ decode_complete words text given left held held' faults faults' class frames com
 good_words : (words : List (List ℕ)) (command : Command) (status : ℕ) → command_of words ≡ Some command → (status ≡ 4 → ⊥) → (status ≡ 4) ↔ (command_of words ≡ None)
 good_words words command status w other = (λ e. absurd (other e), λ f. absurd (is_none (command_of words) command w f))
 
-is_script : (given : List ℕ) (script : Script) → first_script_of given ≡ Ok script → IsNoScript given → ⊥
-is_script given script is bad = no_script script (bad.0, bad.1) (first_script_of given) is bad.2
+is_script : (given : List ℕ) (script : Script) → script_of given ≡ Ok script → IsNoScript given → ⊥
+is_script given script is bad = no_script script (bad.0, bad.1) (script_of given) is bad.2
+
+-- a script that was run has parameters that agree
+is_agreed : {EndsWith : Script → History → Type 0} {agreed : Agreed} {history : History} (given : List ℕ) (script : Script) → IsRun EndsWith given script agreed history → IsUnagreed given → ⊥
+is_agreed given script run bad =
+    let same : script ≡ bad.0 = one_script script bad.0 (script_of given) run.script_is bad.1 in
+    bad.2 (subst (λ (x : Script). Agree x.params) same run.agrees)
 
 -- a transfer that was read isn't outside the grammar of the words' class
 is_inside : (asked : Option Command) (class other : Class) (given : List ℕ) (frames : List (List ℕ)) (commands : ℕ) → asked ≡ Some (Decode class) → asked ≡ Some (Decode other)
@@ -92,10 +121,56 @@ is_inside : (asked : Option Command) (class other : Class) (given : List ℕ) (f
 is_inside asked class other given frames commands a b r out = out frames commands (reads_as asked class other given given frames commands a b refl r)
 
 pub exact : RefusalsAreExact
-exact words given left held held' faults faults' _ (done script history w whole is t) = record {
+exact words given left held held' faults faults' _ (runs _ w whole (printed script agreed history run t)) = record {
   of_words = good_words words Serial 0 w (λ e. omega (arith, e));
   of_script = λ e. absurd (omega (arith, e));
+  of_no_script = λ a few bad c. absurd (is_script given script run.script_is bad);
+  of_setup = λ e. absurd (omega (arith, e));
+  of_no_setup = λ a few bad c. absurd (is_agreed given script run bad);
+  of_transfer = λ e. absurd (omega (arith, e));
+  of_no_transfer = λ class a few out c. absurd (two_ways (command_of words) class w a);
+  of_size = λ e. absurd (omega (arith, e));
+  of_more = λ big. let few = whole.1 in absurd (omega (arith, few, big));
+}
+exact words given left held held' faults faults' _ (runs _ w whole (refused _ (wants_memory t))) = record {
+  of_words = good_words words Serial 1 w (λ e. omega (arith, e));
+  of_script = λ e. absurd (omega (arith, e));
+  of_no_script = λ a few bad c. inr refl;
+  of_setup = λ e. absurd (omega (arith, e));
+  of_no_setup = λ a few bad c. inr refl;
+  of_transfer = λ e. absurd (omega (arith, e));
+  of_no_transfer = λ class a few out c. inr refl;
+  of_size = λ e. absurd (omega (arith, e));
+  of_more = λ big. inr refl;
+}
+exact words given left held held' faults faults' _ (runs _ w whole (print_stopped script agreed history run t)) = record {
+  of_words = good_words words Serial 3 w (λ e. omega (arith, e));
+  of_script = λ e. absurd (omega (arith, e));
+  of_no_script = λ a few bad c. absurd (is_script given script run.script_is bad);
+  of_setup = λ e. absurd (omega (arith, e));
+  of_no_setup = λ a few bad c. absurd (is_agreed given script run bad);
+  of_transfer = λ e. absurd (omega (arith, e));
+  of_no_transfer = λ class a few out c. absurd (two_ways (command_of words) class w a);
+  of_size = λ e. absurd (omega (arith, e));
+  of_more = λ big. let few = whole.1 in absurd (omega (arith, few, big));
+}
+exact words given left held held' faults faults' _ (runs _ w whole (refused _ (not_a_script line why is t))) = record {
+  of_words = good_words words Serial 5 w (λ e. omega (arith, e));
+  of_script = λ e. (w, (line, why, is));
+  of_no_script = λ a few bad c. inl refl;
+  of_setup = λ e. absurd (omega (arith, e));
+  of_no_setup = λ a few bad c. absurd (is_script given bad.0 bad.1 (line, why, is));
+  of_transfer = λ e. absurd (omega (arith, e));
+  of_no_transfer = λ class a few out c. absurd (two_ways (command_of words) class w a);
+  of_size = λ e. absurd (omega (arith, e));
+  of_more = λ big. let few = whole.1 in absurd (omega (arith, few, big));
+}
+exact words given left held held' faults faults' _ (runs _ w whole (refused _ (not_agreed script fault is no not t))) = record {
+  of_words = good_words words Serial 6 w (λ e. omega (arith, e));
+  of_script = λ e. absurd (omega (arith, e));
   of_no_script = λ a few bad c. absurd (is_script given script is bad);
+  of_setup = λ e. (w, (script, is, not));
+  of_no_setup = λ a few bad c. inl refl;
   of_transfer = λ e. absurd (omega (arith, e));
   of_no_transfer = λ class a few out c. absurd (two_ways (command_of words) class w a);
   of_size = λ e. absurd (omega (arith, e));
@@ -105,6 +180,8 @@ exact words given left held held' faults faults' _ (decodes class _ w whole (dec
   of_words = good_words words (Decode class) 0 w (λ e. omega (arith, e));
   of_script = λ e. absurd (omega (arith, e));
   of_no_script = λ a few bad c. absurd (two_ways (command_of words) class a w);
+  of_setup = λ e. absurd (omega (arith, e));
+  of_no_setup = λ a few bad c. absurd (two_ways (command_of words) class a w);
   of_transfer = λ e. absurd (omega (arith, e));
   of_no_transfer = λ other a few out c. absurd (is_inside (command_of words) class other given frames commands w a r out);
   of_size = λ e. absurd (omega (arith, e));
@@ -114,6 +191,8 @@ exact words given left held held' faults faults' _ (decodes class _ w whole (sto
   of_words = good_words words (Decode class) 3 w (λ e. omega (arith, e));
   of_script = λ e. absurd (omega (arith, e));
   of_no_script = λ a few bad c. absurd (two_ways (command_of words) class a w);
+  of_setup = λ e. absurd (omega (arith, e));
+  of_no_setup = λ a few bad c. absurd (two_ways (command_of words) class a w);
   of_transfer = λ e. absurd (omega (arith, e));
   of_no_transfer = λ other a few out c. absurd (is_inside (command_of words) class other given frames commands w a r out);
   of_size = λ e. absurd (omega (arith, e));
@@ -123,6 +202,8 @@ exact words given left held held' faults faults' _ (decodes class _ w whole (bad
   of_words = good_words words (Decode class) 8 w (λ e. omega (arith, e));
   of_script = λ e. absurd (omega (arith, e));
   of_no_script = λ a few bad c. absurd (two_ways (command_of words) class a w);
+  of_setup = λ e. absurd (omega (arith, e));
+  of_no_setup = λ a few bad c. absurd (two_ways (command_of words) class a w);
   of_transfer = λ e. (class, w, out);
   of_no_transfer = λ other a few outside c. inl refl;
   of_size = λ e. absurd (omega (arith, e));
@@ -132,6 +213,8 @@ exact words given left held held' faults faults' _ (no_memory command w t) = rec
   of_words = good_words words command 1 w (λ e. omega (arith, e));
   of_script = λ e. absurd (omega (arith, e));
   of_no_script = λ a few bad c. inr refl;
+  of_setup = λ e. absurd (omega (arith, e));
+  of_no_setup = λ a few bad c. inr refl;
   of_transfer = λ e. absurd (omega (arith, e));
   of_no_transfer = λ class a few out c. inr refl;
   of_size = λ e. absurd (omega (arith, e));
@@ -141,42 +224,30 @@ exact words given left held held' faults faults' _ (read_fault command w size t)
   of_words = good_words words command 2 w (λ e. omega (arith, e));
   of_script = λ e. absurd (omega (arith, e));
   of_no_script = λ a few bad c. absurd (c refl);
+  of_setup = λ e. absurd (omega (arith, e));
+  of_no_setup = λ a few bad c. absurd (c refl);
   of_transfer = λ e. absurd (omega (arith, e));
   of_no_transfer = λ class a few out c. absurd (c refl);
   of_size = λ e. absurd (omega (arith, e));
   of_more = λ big. absurd (omega (arith, size, big));
 }
-exact words given left held held' faults faults' _ (write_fault script history w whole is t) = record {
-  of_words = good_words words Serial 3 w (λ e. omega (arith, e));
-  of_script = λ e. absurd (omega (arith, e));
-  of_no_script = λ a few bad c. absurd (is_script given script is bad);
-  of_transfer = λ e. absurd (omega (arith, e));
-  of_no_transfer = λ class a few out c. absurd (two_ways (command_of words) class w a);
-  of_size = λ e. absurd (omega (arith, e));
-  of_more = λ big. let few = whole.1 in absurd (omega (arith, few, big));
-}
 exact words given left held held' faults faults' _ (bad_words w none t) = record {
   of_words = (λ e. w, λ f. refl);
   of_script = λ e. absurd (omega (arith, e));
   of_no_script = λ a few bad c. absurd (is_none (command_of words) Serial a w);
+  of_setup = λ e. absurd (omega (arith, e));
+  of_no_setup = λ a few bad c. absurd (is_none (command_of words) Serial a w);
   of_transfer = λ e. absurd (omega (arith, e));
   of_no_transfer = λ class a few out c. absurd (is_none (command_of words) (Decode class) a w);
   of_size = λ e. absurd (omega (arith, e));
   of_more = λ big. let nothing = ap length none in absurd (omega (arith, nothing, big));
 }
-exact words given left held held' faults faults' _ (bad_script line why w whole is t) = record {
-  of_words = good_words words Serial 5 w (λ e. omega (arith, e));
-  of_script = λ e. (w, (line, why, is));
-  of_no_script = λ a few bad c. inl refl;
-  of_transfer = λ e. absurd (omega (arith, e));
-  of_no_transfer = λ class a few out c. absurd (two_ways (command_of words) class w a);
-  of_size = λ e. absurd (omega (arith, e));
-  of_more = λ big. let few = whole.1 in absurd (omega (arith, few, big));
-}
 exact words given left held held' faults faults' _ (too_large command w size t) = record {
   of_words = good_words words command 7 w (λ e. omega (arith, e));
   of_script = λ e. absurd (omega (arith, e));
   of_no_script = λ a few bad c. absurd (omega (arith, size, few));
+  of_setup = λ e. absurd (omega (arith, e));
+  of_no_setup = λ a few bad c. absurd (omega (arith, size, few));
   of_transfer = λ e. absurd (omega (arith, e));
   of_no_transfer = λ class a few out c. absurd (omega (arith, size, few));
   of_size = λ e. omega (arith, size);

@@ -4,28 +4,17 @@ ghost use Rattle.std.specs.Prelude.{◌≡◌, ◌≤◌, ℕ, List, map, length
 ghost use Rattle.std.specs.String.{string_bytes};
 ghost use Rattle.std.specs.Io.KnownBytes.{Consumes};
 ghost use Rattle.un_io.specs.Io.{Rose};
-ghost use Rattle.usbnet_run.specs.Command.{DecodeIsComplete, Ends, IsComplete, RefusalsAreExact, why_word, bad_script_line};
+ghost use Rattle.usbnet_run.specs.Command.{DecodeIsComplete, Ends, IsComplete, RefusalsAreExact};
 ghost use Rattle.usbnet_run.specs.Refusals.{Tells};
 
 use crate::decode::decode;
-use crate::serial::run_script;
+use crate::serial::serial;
 use crate::words::{Command, command_of};
 use std::alloc::Global;
 use un_io::{ReadError, Sink, Source, read_whole, write_whole};
-use un_journal::{Buffer, number, word, write_trace};
-use un_script::{FirstError, FirstWhy};
 
 /// The most bytes of input.
 const MOST_INPUT: u64 = 16_777_216;
-
-fn why_word(why: FirstWhy) -> &'static [u8]
-    ensures word { result.now ≡ Rattle.usbnet_run.specs.Command.why_word why }
-    ensures short { length result.now ≤ 7 }
-{
-    match why {
-        FirstWhy::Form => b"form",
-    }
-}
 
 /// Writes a refusal's line, or a front of it: the status stays the refusal's own where the write fails.
 pub(crate) fn tell<O: Sink>(out: &mut O, line: &[u8])
@@ -35,26 +24,14 @@ pub(crate) fn tell<O: Sink>(out: &mut O, line: &[u8])
     let _ = write_whole(out, line);
 }
 
-/// Writes that a script's line is refused.
-fn tell_bad_script<O: Sink>(out: &mut O, line: u64, why: FirstWhy)
-    ensures told { Tells (O.held out.old) (O.held out.new) (O.faults out.old) (O.faults out.new) (Rattle.usbnet_run.specs.Command.bad_script_line line why) }
-    ensures never_falls { O.faults out.old ≤ O.faults out.new }
-{
-    let mut refusal = Buffer::make();
-    refusal.push(b"bad script");
-    number(&mut refusal, line);
-    word(&mut refusal, why_word(why));
-    refusal.push(b"\n");
-    tell(out, refusal.as_slice());
-}
-
-/// Does the command `serial`: reads a script from the source, runs it, and adds the trace text of its history to the sink. Does the
+/// Does the command `serial`: reads a script from the source, runs its link by the serial drain, and adds the trace text of its history
+/// and the report to the sink. Does the
 /// command `decode` with the word of a class: reads one transfer's bytes, and adds the text of its frames. Other words are bad words.
 /// It always returns, and takes all memory before the first byte of output.
 ///
 /// The status is 0 where all output was written; 1 for want of memory; 2 where a read failed; 3 where a write failed, and then the
 /// sink has grown by a front of the output and not all; 4 where the words are no command, and then no byte was read; 5 where the
-/// bytes are no script; 7 where there were more than 16,777,216 of them; 8 where the class's grammar has no reading of them. All but
+/// bytes are no script; 6 where its parameters don't agree; 7 where there were more than 16,777,216 of them; 8 where the class's grammar has no reading of them. All but
 /// 0 and 3 write one line, or a front of it where that write fails.
 pub fn plain_command<I: Source, O: Sink>(
     alloc: Global,
@@ -89,28 +66,9 @@ pub fn plain_command<I: Source, O: Sink>(
             return 1;
         }
     };
-    if let Command::Decode(class) = command {
-        return decode(out, class, &text);
-    }
-    let script = match un_script::read_first_form(alloc, &text) {
-        Ok(script) => script,
-        Err(FirstError::BadLine { line, why }) => {
-            tell_bad_script(out, line, why);
-            return 5;
-        }
-        Err(FirstError::NoMemory) => {
-            tell(out, b"no memory\n");
-            return 1;
-        }
-    };
-    drop(text);
-    let Ok(journal) = run_script(alloc, script) else {
-        tell(out, b"no memory\n");
-        return 1;
-    };
-    match write_trace(out, &journal) {
-        Ok(()) => 0,
-        Err(_) => 3,
+    match command {
+        Command::Serial => serial(alloc, out, text),
+        Command::Decode(class) => decode(out, class, &text),
     }
 }
 

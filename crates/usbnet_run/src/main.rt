@@ -5,6 +5,7 @@ mod command;
 mod decode;
 #[cfg(test)]
 mod decode_tests;
+mod prepare;
 mod serial;
 #[cfg(test)]
 mod tests;

@@ -1,7 +1,7 @@
 use Rattle.std.proofs.Common.{[], refl, sym}
 use Rattle.un_io.proofs.Known.{Consumes-none}
 use Rattle.usbnet_run.specs.Command.{Ends}
-use Rattle.usbnet_run.proofs.Endings.{script_given, script_in_range, decode_asked, decodes_given, serial_only}
+use Rattle.usbnet_run.proofs.Endings.{decode_asked, decodes_given, runs_given, serial_asked}
 use Rattle.usbnet_run.proofs.command.plain_command.Goals as goal
 
 pub returns-in_default-clause-ends : goal.returns-in_default-clause-ends
@@ -29,46 +29,8 @@ returns-in-Decode-clause-ends g c =
     let asked = decode_asked _ c.in-Some.command c.in-Decode.class c.in-Some.ensures c.in-Decode.is in
     (r.0, r.1, Ends.decodes c.in-Decode.class c.decode.result asked (r.2.2, r.2.1) (decodes_given c.in-Decode.class _ _ _ _ _ _ _ c.decode.result c.deref.ensures.value r.2.0 c.decode.ensures.ends))
 
-pub returns-in-Err-NoMemory-read_first_form-clause-ends : goal.returns-in-Err-NoMemory-read_first_form-clause-ends
-returns-in-Err-NoMemory-read_first_form-clause-ends g c =
+pub returns-in-Serial-clause-ends : goal.returns-in-Serial-clause-ends
+returns-in-Serial-clause-ends g c =
     let r = c.in-Ok.ensures.given in
-    (r.0, r.1, Ends.no_memory c.in-Some.command (sym c.in-Some.ensures) c.tell-in-Err-NoMemory-read_first_form.ensures.told)
-
-pub returns-in_default-run_script-clause-ends : goal.returns-in_default-run_script-clause-ends
-returns-in_default-run_script-clause-ends g c =
-    let r = c.in-Ok.ensures.given in
-    (r.0, r.1, Ends.no_memory c.in-Some.command (sym c.in-Some.ensures) c.tell-in_default-run_script.ensures.told)
-
-pub returns-in-Err-BadLine-clause-ends : goal.returns-in-Err-BadLine-clause-ends
-returns-in-Err-BadLine-clause-ends g c =
-    let serial = serial_only _ c.in-Some.command c.in-Some.ensures c.in_default-command.not-Decode in
-    let r = c.in-Ok.ensures.given in (
-      r.0,
-      r.1,
-      Ends.bad_script c.in-Err-BadLine.line c.in-Err-BadLine.why serial (r.2.2, r.2.1)
-          (script_given _ _ _ _ c.deref-2.ensures.value r.2.0 (rw c.in-Err-BadLine.field-0-is at c.in-Err-BadLine.ensures))
-          (rw c.in-Err-BadLine.field-0-is at c.tell_bad_script.ensures.told),
-    )
-
-pub returns-in-Ok-write_trace-clause-ends : goal.returns-in-Ok-write_trace-clause-ends
-returns-in-Ok-write_trace-clause-ends g c =
-    let serial = serial_only _ c.in-Some.command c.in-Some.ensures c.in_default-command.not-Decode in
-    let r = c.in-Ok.ensures.given in (
-      r.0,
-      r.1,
-      Ends.done c.in-Ok-read_first_form.script c.in-Ok-run_script.journal.history serial (r.2.2, r.2.1)
-          (script_given _ _ _ _ c.deref-2.ensures.value r.2.0 c.in-Ok-read_first_form.ensures) c.in-Ok-write_trace.ensures.written,
-    )
-
-pub returns-clause-ends : goal.returns-clause-ends
-returns-clause-ends g c =
-    let serial = serial_only _ c.in-Some.command c.in-Some.ensures c.in_default-command.not-Decode in
-    let r = c.in-Ok.ensures.given in (
-      r.0,
-      r.1,
-      Ends.write_fault c.in-Ok-read_first_form.script c.in-Ok-run_script.journal.history serial (r.2.2, r.2.1)
-          (script_given _ _ _ _ c.deref-2.ensures.value r.2.0 c.in-Ok-read_first_form.ensures) c.in-Err.ensures.stopped,
-    )
-
-pub run_script-requires : goal.run_script-requires
-run_script-requires g c = script_in_range _ _ c.in-Ok-read_first_form.ensures
+    let asked = serial_asked _ c.in-Some.command c.in-Some.ensures c.in-Serial.is in
+    (r.0, r.1, Ends.runs c.serial.result asked (r.2.2, r.2.1) (runs_given _ _ _ _ _ _ c.serial.result r.2.0 c.serial.ensures.ends))

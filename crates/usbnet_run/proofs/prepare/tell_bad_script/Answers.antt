@@ -1,5 +1,5 @@
 use Rattle.usbnet_run.proofs.Endings.{refusal, told_line}
-use Rattle.usbnet_run.proofs.command.tell_bad_script.Goals as goal
+use Rattle.usbnet_run.proofs.prepare.tell_bad_script.Goals as goal
 
 pub returns-clause-told : goal.returns-clause-told
 returns-clause-told g c =

@@ -1,0 +1,2 @@
+use Rattle.usbnet_run.specs.Runs.{Refuses}
+use Rattle.usbnet_run.proofs.prepare.prepare.Goals as goal

@@ -1,0 +1,121 @@
+//! A link for a script's text.
+
+ghost use Rattle.std.specs.Prelude.{◌≡◌, ◌≤◌, IfErr, IfOk};
+ghost use Rattle.usbnet_run.specs.Runs.{Refuses, bad_script_line, setup_line, why_word};
+ghost use Rattle.usbnet_run.specs.Refusals.{Tells};
+ghost use Rattle.usbnet_run.specs.Prepared.{IsPrepared};
+
+use crate::command::tell;
+use std::alloc::Global;
+use un_io::Sink;
+use un_journal::{Buffer, number, word};
+use un_link::Link;
+use un_script::{ScriptError, Why, read};
+use un_setup::{Agreed, SetupFault, agree};
+
+/// A new link, and what its two ends agreed on.
+#[derive(Drop)]
+pub struct Prepared {
+    pub link: Link,
+    pub agreed: Agreed,
+}
+
+/// The word of a reason.
+fn why_word(why: Why) -> &'static [u8]
+    ensures word { result.now ≡ Rattle.usbnet_run.specs.Runs.why_word why }
+    ensures short { length result.now ≤ 7 }
+{
+    match why {
+        Why::Word => b"word",
+        Why::Order => b"order",
+        Why::Number => b"number",
+        Why::Range => b"range",
+        Why::Hex => b"hex",
+        Why::Count => b"count",
+        Why::Control => b"control",
+        Why::Fault => b"fault",
+    }
+}
+
+/// Writes that a script's line is refused.
+fn tell_bad_script<O: Sink>(out: &mut O, line: u64, why: Why)
+    ensures told { Tells (O.held out.old) (O.held out.new) (O.faults out.old) (O.faults out.new) (bad_script_line line why) }
+    ensures never_falls { O.faults out.old ≤ O.faults out.new }
+{
+    let mut refusal = Buffer::make();
+    refusal.push(b"bad script");
+    number(&mut refusal, line);
+    word(&mut refusal, why_word(why));
+    refusal.push(b"\n");
+    tell(out, refusal.as_slice());
+}
+
+/// Writes that the parameters don't agree.
+fn tell_setup<O: Sink>(out: &mut O, fault: SetupFault)
+    ensures told { Tells (O.held out.old) (O.held out.new) (O.faults out.old) (O.faults out.new) (setup_line fault) }
+    ensures never_falls { O.faults out.old ≤ O.faults out.new }
+{
+    let mut refusal = Buffer::make();
+    match fault {
+        SetupFault::BadDivisor { divisor, remainder } => {
+            refusal.push(b"setup refused divisor");
+            number(&mut refusal, u64::from(divisor));
+            number(&mut refusal, u64::from(remainder));
+            refusal.push(b"\n");
+        }
+        SetupFault::BadAlignment { alignment } => {
+            refusal.push(b"setup refused alignment");
+            number(&mut refusal, u64::from(alignment));
+            refusal.push(b"\n");
+        }
+        SetupFault::NoFit { segment, block } => {
+            refusal.push(b"setup refused no-fit");
+            number(&mut refusal, u64::from(segment));
+            number(&mut refusal, u64::from(block));
+            refusal.push(b"\n");
+        }
+        SetupFault::NoMemory => refusal.push(b"no memory\n"),
+    }
+    tell(out, refusal.as_slice());
+}
+
+/// Reads a script, lets the two ends agree on its parameters, and makes the link. A refusal's status comes with its line, or a front of it, in the sink: 1 for want of memory, 5 where the text is no script, 6 where
+/// its parameters don't agree. Nothing is written where there is a link.
+pub fn prepare<O: Sink>(alloc: Global, out: &mut O, text: Vec<u8>) -> Result<Prepared, u8>
+    ensures prepared { IfOk result (λ p. IsPrepared text.items p.link p.agreed) }
+    ensures silent { IfOk result (λ p. O.held out.new ≡ O.held out.old) }
+    ensures refused { IfErr result (λ status. Refuses text.items (O.held out.old) (O.held out.new) (O.faults out.old) (O.faults out.new) status) }
+    ensures never_falls { O.faults out.old ≤ O.faults out.new }
+{
+    let script = match read(alloc, &text) {
+        Ok(script) => script,
+        Err(ScriptError::BadLine { line, why }) => {
+            tell_bad_script(out, line, why);
+            return Err(5);
+        }
+        Err(ScriptError::NoMemory) => {
+            tell(out, b"no memory\n");
+            return Err(1);
+        }
+    };
+    drop(text);
+    script.is_ready();
+    let agreed = match agree(alloc, script.params()) {
+        Ok(agreed) => agreed,
+        Err(SetupFault::NoMemory) => {
+            tell(out, b"no memory\n");
+            return Err(1);
+        }
+        Err(fault) => {
+            tell_setup(out, fault);
+            return Err(6);
+        }
+    };
+    match Link::make(alloc, script, &agreed) {
+        Ok(link) => Ok(Prepared { link, agreed }),
+        Err(_) => {
+            tell(out, b"no memory\n");
+            Err(1)
+        }
+    }
+}
