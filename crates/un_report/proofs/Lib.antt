@@ -1,0 +1,3 @@
+pub mod Parts
+pub mod Lots
+pub mod Feeds
