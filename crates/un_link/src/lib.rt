@@ -2,9 +2,12 @@
 #![tactic(auto)]
 
 mod cursors;
+mod homes;
 mod link;
 mod offer;
+mod room;
 mod task;
 mod work;
 
+pub use homes::Homes;
 pub use link::LinkOver;
