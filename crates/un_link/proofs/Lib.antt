@@ -3,3 +3,6 @@ pub mod Working
 pub mod Flying
 pub mod Holding
 pub mod Offers
+pub mod SameFlights
+pub mod Takings
+pub mod Flights

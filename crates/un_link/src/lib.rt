@@ -2,9 +2,12 @@
 #![tactic(auto)]
 
 mod cursors;
+mod flight;
 mod link;
 mod offer;
 mod task;
+mod transfer;
 mod work;
 
+pub use flight::{LinkCarried, LinkFlight};
 pub use link::LinkOver;

@@ -3,6 +3,7 @@
 ghost use Rattle.std.specs.Prelude.{◌≡◌};
 ghost use Rattle.un_link.specs.Link.{Holds};
 
+mod flight;
 mod step;
 
 use crate::cursors::Cursors;
