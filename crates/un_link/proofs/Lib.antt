@@ -6,3 +6,6 @@ pub mod Offers
 pub mod Rooms
 pub mod Fresh
 pub mod Resting
+pub mod SameFlights
+pub mod Takings
+pub mod Flights

@@ -1,3 +1,4 @@
+pub mod Flights
 pub mod Keeps
 pub mod Link
 pub mod Ends

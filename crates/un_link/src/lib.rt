@@ -3,11 +3,14 @@
 
 mod cursors;
 mod homes;
+mod flight;
 mod link;
 mod offer;
 mod room;
 mod task;
+mod transfer;
 mod work;
 
 pub use homes::Homes;
+pub use flight::{LinkCarried, LinkFlight};
 pub use link::LinkOver;
