@@ -9,3 +9,5 @@ pub mod Resting
 pub mod SameFlights
 pub mod Takings
 pub mod Flights
+pub mod BothLanes
+pub mod Ordering

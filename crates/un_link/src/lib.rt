@@ -7,6 +7,7 @@ mod flight;
 mod link;
 mod offer;
 mod room;
+mod orders;
 mod task;
 mod transfer;
 mod work;
