@@ -165,7 +165,7 @@ exact words given left held held' faults faults' _ (runs _ w whole (refused _ (n
   of_size = λ e. absurd (omega (arith, e));
   of_more = λ big. let few = whole.1 in absurd (omega (arith, few, big));
 }
-exact words given left held held' faults faults' _ (runs _ w whole (refused _ (not_agreed script fault is no not t))) = record {
+exact words given left held held' faults faults' _ (runs _ w whole (refused _ (not_agreed script fault is none not t))) = record {
   of_words = good_words words Serial 6 w (λ e. omega (arith, e));
   of_script = λ e. absurd (omega (arith, e));
   of_no_script = λ a few bad c. absurd (is_script given script is bad);

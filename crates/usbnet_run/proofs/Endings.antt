@@ -39,3 +39,12 @@ serial_asked asked command is serial = sym is ∙ ap (λ k. Some k) serial
 
 pub decode_asked : (asked : Option Command) (command : Command) (class : Class) → Some command ≡ asked → command ≡ Decode class → asked ≡ Some (Decode class)
 decode_asked asked command class is decode = sym is ∙ ap (λ k. Some k) decode
+
+-- the line of a refusal with numbers
+pub one_line : (a b c d words : List ℕ) (n : ℕ) → a ≡ [] → b ≡ a ++ words → c ≡ b ++ 32 ∷ decimal n → d ≡ c ++ codes "\n" → d ≡ words ++ 32 ∷ decimal n ++ codes "\n"
+one_line a b c d words n ha hb hc hd = hd ∙ ap (λ t. t ++ codes "\n") (hc ∙ ap (λ t. t ++ 32 ∷ decimal n) (hb ∙ ap (λ t. t ++ words) ha))
+
+pub two_line : (a b c d e words : List ℕ) (n m : ℕ) → a ≡ [] → b ≡ a ++ words → c ≡ b ++ 32 ∷ decimal n → d ≡ c ++ 32 ∷ decimal m → e ≡ d ++ codes "\n"
+    → e ≡ words ++ 32 ∷ decimal n ++ 32 ∷ decimal m ++ codes "\n"
+two_line a b c d e words n m ha hb hc hd he =
+    he ∙ ap (λ t. t ++ codes "\n") (hd ∙ ap (λ t. t ++ 32 ∷ decimal m) (hc ∙ ap (λ t. t ++ 32 ∷ decimal n) (hb ∙ ap (λ t. t ++ words) ha)))

@@ -1,6 +1,6 @@
 //! A link for a script's text.
 
-ghost use Rattle.std.specs.Prelude.{◌≡◌, ◌≤◌, IfErr, IfOk};
+ghost use Rattle.std.specs.Prelude.{◌≡◌, ◌≤◌, ◌∷◌, ◌++◌, IfErr, IfOk, codes, decimal, length};
 ghost use Rattle.usbnet_run.specs.Runs.{Refuses, bad_script_line, setup_line, why_word};
 ghost use Rattle.usbnet_run.specs.Refusals.{Tells};
 ghost use Rattle.usbnet_run.specs.Prepared.{IsPrepared};
@@ -50,33 +50,60 @@ fn tell_bad_script<O: Sink>(out: &mut O, line: u64, why: Why)
     tell(out, refusal.as_slice());
 }
 
+/// Writes a refusal of these words and a number.
+fn tell_one<O: Sink>(out: &mut O, words: &[u8], value: u64)
+    requires { length words.now ≤ 64 }
+    ensures told { Tells (O.held out.old) (O.held out.new) (O.faults out.old) (O.faults out.new) (words.now ++ 32 ∷ decimal value ++ codes "\n") }
+    ensures never_falls { O.faults out.old ≤ O.faults out.new }
+{
+    let mut refusal = Buffer::make();
+    refusal.push(words);
+    number(&mut refusal, value);
+    refusal.push(b"\n");
+    tell(out, refusal.as_slice());
+}
+
+/// Writes a refusal of these words and two numbers.
+fn tell_two<O: Sink>(out: &mut O, words: &[u8], first: u64, second: u64)
+    requires { length words.now ≤ 64 }
+    ensures told { Tells (O.held out.old) (O.held out.new) (O.faults out.old) (O.faults out.new) (words.now ++ 32 ∷ decimal first ++ 32 ∷ decimal second ++ codes "\n") }
+    ensures never_falls { O.faults out.old ≤ O.faults out.new }
+{
+    let mut refusal = Buffer::make();
+    refusal.push(words);
+    number(&mut refusal, first);
+    number(&mut refusal, second);
+    refusal.push(b"\n");
+    tell(out, refusal.as_slice());
+}
+
 /// Writes that the parameters don't agree.
 fn tell_setup<O: Sink>(out: &mut O, fault: SetupFault)
     ensures told { Tells (O.held out.old) (O.held out.new) (O.faults out.old) (O.faults out.new) (setup_line fault) }
     ensures never_falls { O.faults out.old ≤ O.faults out.new }
 {
-    let mut refusal = Buffer::make();
     match fault {
         SetupFault::BadDivisor { divisor, remainder } => {
-            refusal.push(b"setup refused divisor");
-            number(&mut refusal, u64::from(divisor));
-            number(&mut refusal, u64::from(remainder));
-            refusal.push(b"\n");
+            tell_two(
+                out,
+                b"setup refused divisor",
+                u64::from(divisor),
+                u64::from(remainder),
+            );
         }
         SetupFault::BadAlignment { alignment } => {
-            refusal.push(b"setup refused alignment");
-            number(&mut refusal, u64::from(alignment));
-            refusal.push(b"\n");
+            tell_one(out, b"setup refused alignment", u64::from(alignment));
         }
         SetupFault::NoFit { segment, block } => {
-            refusal.push(b"setup refused no-fit");
-            number(&mut refusal, u64::from(segment));
-            number(&mut refusal, u64::from(block));
-            refusal.push(b"\n");
+            tell_two(
+                out,
+                b"setup refused no-fit",
+                u64::from(segment),
+                u64::from(block),
+            );
         }
-        SetupFault::NoMemory => refusal.push(b"no memory\n"),
+        SetupFault::NoMemory => tell(out, b"no memory\n"),
     }
-    tell(out, refusal.as_slice());
 }
 
 /// Reads a script, lets the two ends agree on its parameters, and makes the link. A refusal's status comes with its line, or a front of it, in the sink: 1 for want of memory, 5 where the text is no script, 6 where
