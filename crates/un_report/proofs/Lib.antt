@@ -1,3 +1,4 @@
 pub mod Parts
 pub mod Lots
 pub mod Feeds
+pub mod Examples
