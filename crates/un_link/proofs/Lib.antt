@@ -5,3 +5,5 @@ pub mod Holding
 pub mod Offers
 pub mod BothLanes
 pub mod Ordering
+pub mod Controlling
+pub mod Settling

@@ -3,6 +3,8 @@
 ghost use Rattle.std.specs.Prelude.{◌≡◌};
 ghost use Rattle.un_link.specs.Link.{Holds};
 
+mod control;
+mod settle;
 mod step;
 
 use crate::cursors::Cursors;
