@@ -110,8 +110,8 @@ did_past : (lane : Lane) (h : History) (cause : ℕ) (forced : Bool) → past la
 did_past lane h cause forced = past_onto lane h (bare (Line.Control cause forced) ∷ [])
 
 module _ (link : Link) (k : Holds link) (due : Due) (forced : Bool) (head : slice_get link.script.controls (controls_done (reverse link.log.history)) ≡ Some due)
-  (fits : control link.script link.log.history forced ≡ control_now link.script link.log.history due forced)
-  (free : hinders due.control link.phase (past Outward link.log.history) (past Inward link.log.history) ≡ 0) where
+    (fits : control link.script link.log.history forced ≡ control_now link.script link.log.history due forced)
+    (free : hinders due.control link.phase (past Outward link.log.history) (past Inward link.log.history) ≡ 0) where
   abbrev did : Entry
   did = bare (Line.Control link.done forced)
 

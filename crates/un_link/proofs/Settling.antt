@@ -131,9 +131,9 @@ module _ (link : Link) (k : Holds link) (fits : settle link.script link.log.hist
       let l : 1 ≤ link.log.spare_lines = r.lines_fit in omega arith
 
   module _ (a b c d : ℕ) (homes : AreHomes link.script link.log.history a b c d) (log1 : Log) (history_is : log1.history ≡ link.log.history ++ bare (Settled a b c d) ∷ [])
-    (lines_left : log1.spare_lines + 1 ≡ link.log.spare_lines) (bytes_left : log1.spare_bytes + 0 ≡ link.log.spare_bytes)
-    (out' inward' : Way) (out_now : out' ≡ settled link.out) (in_now : inward' ≡ settled link.inward)
-    (out_stands : (h : History) → Stands (settled link.out) h → Stands out' h) (in_stands : (h : History) → Stands (settled link.inward) h → Stands inward' h) where
+      (lines_left : log1.spare_lines + 1 ≡ link.log.spare_lines) (bytes_left : log1.spare_bytes + 0 ≡ link.log.spare_bytes)
+      (out' inward' : Way) (out_now : out' ≡ settled link.out) (in_now : inward' ≡ settled link.inward)
+      (out_stands : (h : History) → Stands (settled link.out) h → Stands out' h) (in_stands : (h : History) → Stands (settled link.inward) h → Stands inward' h) where
     own_lines : lines_in (settle link.script link.log.history) ≡ bare (Settled a b c d) ∷ []
     own_lines = ap lines_in fits ∙ ap (λ l. bare l ∷ []) (sym (line_is link.script link.log.history a b c d homes))
 

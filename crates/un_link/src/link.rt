@@ -8,8 +8,8 @@ ghost use Rattle.un_lane.specs.Fresh.{AreFresh};
 ghost use Rattle.un_link.specs.Link.{flights_of};
 
 mod control;
-mod settle;
 mod flight;
+mod settle;
 mod step;
 mod tells;
 

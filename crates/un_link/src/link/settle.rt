@@ -93,8 +93,7 @@ impl<A: TxEnd + Drop, B: RxEnd + Drop, C: TxEnd + Drop, D: RxEnd + Drop> LinkOve
             + u64::from(params.rx_out)
             + u64::from(params.tx_in)
             + u64::from(params.rx_in);
-        let homes =
-            u64::from(tx_out) + u64::from(rx_out) + u64::from(tx_in) + u64::from(rx_in);
+        let homes = u64::from(tx_out) + u64::from(rx_out) + u64::from(tx_in) + u64::from(rx_in);
         pools.saturating_sub(homes)
     }
 }
