@@ -2,8 +2,6 @@ pub mod Cuts
 pub mod Decoded
 pub mod Digits
 pub mod Heard
-pub mod FirstHeard
-pub mod FirstLaw
 pub mod Ranges
 pub mod Standings
 pub mod Readiness

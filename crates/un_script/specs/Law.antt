@@ -3,10 +3,6 @@ use Rattle.std.specs.Prelude.{◌≡◌, ℕ, List, Ok}
 use Rattle.un_journal.specs.Script.{Script}
 use Rattle.un_script.specs.Ready.{IsReady}
 use Rattle.un_script.specs.Reading.{script_of}
-use Rattle.un_script.specs.First.{first_script_of}
 
 abbrev pub ReadScriptsAreReady : Type 0
 ReadScriptsAreReady = (text : List ℕ) (script : Script) → script_of text ≡ Ok script → IsReady script
-
-abbrev pub FirstScriptsAreReady : Type 0
-FirstScriptsAreReady = (text : List ℕ) (script : Script) → first_script_of text ≡ Ok script → IsReady script

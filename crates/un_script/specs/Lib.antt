@@ -5,7 +5,6 @@ pub mod Parts
 pub mod Plan
 pub mod Ready
 pub mod Reading
-pub mod First
 pub mod Examples
 pub mod Law
 pub mod Load

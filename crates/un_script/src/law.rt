@@ -1,10 +1,9 @@
 //! What holds of each script that was read.
 
-ghost use Rattle.un_script.specs.Law.{FirstScriptsAreReady, ReadScriptsAreReady};
+ghost use Rattle.un_script.specs.Law.{ReadScriptsAreReady};
 
 /// The parameters are in their ranges, each frame has at least one byte, each control can follow the earlier ones, and there are at most 65,536 frames, 256 controls and 1,024 planned
 /// faults.
 pub fn read_scripts_are_ready()
-    ensures whole { ReadScriptsAreReady }
-    ensures first { FirstScriptsAreReady }
+    ensures { ReadScriptsAreReady }
 {}

@@ -1,7 +1,6 @@
 //! Scripts: what a run of a link is given, and their text.
 #![tactic(auto)]
 
-mod first;
 mod law;
 mod lines;
 mod load;
@@ -15,7 +14,6 @@ mod table;
 mod tests;
 mod why;
 
-pub use first::{FirstError, FirstWhy, read_first_form};
 pub use law::read_scripts_are_ready;
 pub use load::generate;
 pub use reader::read;
