@@ -2,16 +2,16 @@
 #![tactic(auto)]
 
 mod cursors;
-mod homes;
 mod flight;
+mod homes;
 mod link;
 mod offer;
-mod room;
 mod orders;
+mod room;
 mod task;
 mod transfer;
 mod work;
 
-pub use homes::Homes;
 pub use flight::{LinkCarried, LinkFlight};
+pub use homes::Homes;
 pub use link::LinkOver;
