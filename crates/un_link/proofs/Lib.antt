@@ -12,3 +12,5 @@ pub mod Takings
 pub mod Flights
 pub mod BothLanes
 pub mod Ordering
+pub mod Controlling
+pub mod Settling

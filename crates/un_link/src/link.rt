@@ -7,7 +7,9 @@ ghost use Rattle.un_frame.specs.Params.{Agree};
 ghost use Rattle.un_lane.specs.Fresh.{AreFresh};
 ghost use Rattle.un_link.specs.Link.{flights_of};
 
+mod control;
 mod flight;
+mod settle;
 mod step;
 mod tells;
 
