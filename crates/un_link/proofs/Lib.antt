@@ -3,6 +3,14 @@ pub mod Working
 pub mod Flying
 pub mod Holding
 pub mod Offers
+pub mod Rooms
+pub mod Fresh
+pub mod Resting
+pub mod Agreeing
 pub mod SameFlights
 pub mod Takings
 pub mod Flights
+pub mod BothLanes
+pub mod Ordering
+pub mod Controlling
+pub mod Settling

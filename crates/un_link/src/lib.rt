@@ -2,12 +2,18 @@
 #![tactic(auto)]
 
 mod cursors;
+mod ends;
 mod flight;
+mod homes;
 mod link;
 mod offer;
+mod orders;
+mod room;
 mod task;
 mod transfer;
 mod work;
 
+pub use ends::Link;
 pub use flight::{LinkCarried, LinkFlight};
+pub use homes::Homes;
 pub use link::LinkOver;
