@@ -6,6 +6,7 @@ pub mod Offers
 pub mod Rooms
 pub mod Fresh
 pub mod Resting
+pub mod Agreeing
 pub mod SameFlights
 pub mod Takings
 pub mod Flights

@@ -2,6 +2,7 @@
 #![tactic(auto)]
 
 mod cursors;
+mod ends;
 mod flight;
 mod homes;
 mod link;
@@ -12,6 +13,7 @@ mod task;
 mod transfer;
 mod work;
 
+pub use ends::Link;
 pub use flight::{LinkCarried, LinkFlight};
 pub use homes::Homes;
 pub use link::LinkOver;
