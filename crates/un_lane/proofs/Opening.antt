@@ -21,7 +21,7 @@ use Rattle.un_journal.proofs.Order.{ends, is_over, in_order}
 use Rattle.un_lane.specs.Way.{Way}
 use Rattle.un_lane.specs.Stands.{Stands, ArePlaced, IsText, finished, serial_of, opened_serial, flight_tx, flight_rx}
 use Rattle.un_lane.proofs.Counting.{copies_last, length_more}
-use Rattle.un_lane.proofs.Finishing.{ended_over, ended_below}
+use Rattle.un_journal.proofs.Homes.{ended_is, ended_below}
 use Rattle.un_lane.proofs.Serials.{apart, same_number}
 
 -- DONE
@@ -29,7 +29,7 @@ use Rattle.un_lane.proofs.Serials.{apart, same_number}
 ended_made : (g : History) → IsSound g → (j : ℕ) → ended g j ≡ true → j < made g
 ended_made g sound j e = elim (cases_lt j (made g)) [
   | inl h ↦ h
-  | inr h ↦ absurd (false≢true (sym (ended_over g sound j ∙ ap is_over (fresh g sound j h)) ∙ e))
+  | inr h ↦ absurd (false≢true (sym (ended_is g sound j ∙ ap is_over (fresh g sound j h)) ∙ e))
 ]
 
 le_yes : (a b : ℕ) → a ≤ b → nat_le a b ≡ true
@@ -58,7 +58,7 @@ first_done g k ks sound e =
     let both = and_both (ended g k) (nat_le (returned g) k) f.passes in
     let low : returned g ≤ k = le_means (returned g) k both.1 in
     let high : k < ends g = ended_below g sound k both.0 in
-    let over : ended g (returned g) ≡ true = ended_over g sound (returned g) ∙ (in_order g sound (returned g)).below (omega arith) in (
+    let over : ended g (returned g) ≡ true = ended_is g sound (returned g) ∙ (in_order g sound (returned g)).below (omega arith) in (
       elim (cases_lt (returned g) k) [
         | inl h ↦ absurd (false≢true (sym (f.is_least (returned g) h) ∙ rw (over, le_yes (returned g) (returned g) (omega arith)) refl))
         | inr h ↦ omega arith
