@@ -37,7 +37,8 @@ bus_tx_copies bus n = copies n (map number_of bus.queue) + copies n (flight_tx b
 abbrev pub bus_rx_copies : Bus → ℕ → ℕ
 bus_rx_copies bus n = copies n (map number_of bus.posted) + copies n (flight_rx bus.flight)
 
--- a transmit request that has left its end
+-- a transmit request that is deferred or queued, and a posted receive request: of their pool, with its capacity; a flight has one of
+-- each
 pub record IsTx (size capacity : ℕ) (r : Buffer) : Type 0 where
   pub known : r.number < size
   pub sized : r.capacity ≡ capacity
@@ -57,7 +58,8 @@ abbrev pub FlightIs : (FlightRecord → Type 0) → Option FlightRecord → Type
 FlightIs P None = Unit {0}
 FlightIs P (Some f) = P f
 
--- each request is in one place at most, and all of them are somewhere
+-- Each request of a pool, by its number, is in exactly one place, and so many places are taken as there are requests. The pools have
+-- the parameters' sizes, the endpoint has room for all of them, and an inward end defers nothing.
 pub record ArePlaced (lane : Lane) (t : Transmitter) (r : Receiver) (bus : Bus) : Type 0 where
   pub side : t.lane ≡ lane
   pub one_params : r.params ≡ t.params
@@ -70,6 +72,8 @@ pub record ArePlaced (lane : Lane) (t : Transmitter) (r : Receiver) (bus : Bus) 
   pub wide : t.capacity ≤ r.capacity
   pub tx_once : (n : ℕ) → tx_copies t n + bus_tx_copies bus n ≤ 1
   pub rx_once : (n : ℕ) → rx_copies r n + bus_rx_copies bus n ≤ 1
+  pub tx_some : (n : ℕ) → n < t.size → 1 ≤ tx_copies t n + bus_tx_copies bus n
+  pub rx_some : (n : ℕ) → n < r.size → 1 ≤ rx_copies r n + bus_rx_copies bus n
   pub tx_all : tx_count t + length bus.queue + length (flight_tx bus.flight) ≡ t.size
   pub rx_all : rx_count r + length bus.posted + length (flight_rx bus.flight) ≡ r.size
   pub deferred_are : AllByRecursion (IsTx t.size t.capacity) t.deferred
@@ -88,6 +92,8 @@ abbrev pub pends_when : Lane → Bool → ℕ → ℕ
 pends_when Outward is_open waited = if is_open then 3 - waited else 0
 pends_when Inward is_open waited = 0
 
+-- The numbers of accepted datagrams and made transfers are those of the lines. The built frames are those from the end of the last
+-- transfer on; an open block has a claimed request at a host, with its pending count.
 pub record IsBuilt (lane : Lane) (params : Params) (b : Builder) (accepted made' : ℕ) (taken' made'' cover' : ℕ) (last : Bool) (waited : ℕ) : Type 0 where
   pub accepted_is : taken' ≡ accepted
   pub made_is : made'' ≡ made'
@@ -111,6 +117,8 @@ AreMarked mark' [] causes = causes ≡ []
 AreMarked mark' (k ∷ ks) [] = (mark' k ≡ None) × AreMarked mark' ks []
 AreMarked mark' (k ∷ ks) (c ∷ cs) = (mark' k ≡ Some c) × AreMarked mark' ks cs
 
+-- The transfers that wait are the deferred ones and then the queue, and the one that flies is the flight; marks, halt and posted
+-- requests are those of the lines. No transfer that isn't made is marked, and where something is deferred nothing is queued or flies.
 pub record AreQueued (deferred : List Buffer) (bus : Bus) (waiting' flying' : List ℕ) (mark' : ℕ → Option ℕ) (halted' : Bool) (posts' recalls' flights' made' : ℕ) : Type 0 where
   pub wait : waiting' ≡ map serial_of deferred ++ map serial_of bus.queue
   pub fly : flying' ≡ flight_serial bus.flight
@@ -132,6 +140,7 @@ abbrev pub opened_serial : Option Opened → Option ℕ
 opened_serial None = None
 opened_serial (Some o) = Some o.request.serial
 
+-- of the current request the numbers from the next on aren't given, and there is one
 pub record IsLeft (left' : ℕ → List ℕ) (o : Opened) : Type 0 where
   pub numbers : left' o.request.serial ≡ row_from o.next (o.request.to - o.next)
   pub some : o.next < o.request.to
@@ -140,6 +149,7 @@ abbrev pub CurrentIs : (Opened → Type 0) → Option Opened → Type 0
 CurrentIs P None = Unit {0}
 CurrentIs P (Some o) = P o
 
+-- the done, the arrived and the current requests are those of the lines, in their order
 pub record AreAtEnds (done : List Buffer) (arrived'' : List Buffer) (opened' : Option Opened) (finished' arrived' : List ℕ) (current' : Option ℕ) (left' : ℕ → List ℕ) : Type 0 where
   pub done_is : finished' ≡ map serial_of done
   pub arrived_is : arrived' ≡ map serial_of arrived''
@@ -148,6 +158,7 @@ pub record AreAtEnds (done : List Buffer) (arrived'' : List Buffer) (opened' : O
 
 -- HOW MANY ARE HOME
 
+-- the requests at home are as many as the lines say, told as sums
 pub record AreCounted (tx_size' rx_size' : ℕ) (tx_home rx_home claims : ℕ) (made' returned' posts' recalls' failures' cuts' delivered' : ℕ) : Type 0 where
   pub tx : made' + tx_home + claims ≡ tx_size' + returned'
   pub rx : posts' + rx_home ≡ rx_size' + recalls' + failures' + cuts' + delivered'
@@ -159,6 +170,7 @@ pub record IsText (span' : ℕ → Option (ℕ × ℕ)) (bytes' : ℕ → List �
   pub span_is : span' r.serial ≡ Some (r.from, r.to)
   pub bytes_are : bytes' r.serial ≡ r.bytes
 
+-- each request that waits, has arrived or is current holds its transfer, and the flight has its span
 pub record AreTexts (class : Class) (deferred queue arrived' : List Buffer) (opened' : Option Opened) (flight : Option FlightRecord) (span' : ℕ → Option (ℕ × ℕ)) (bytes' : ℕ → List ℕ) : Type 0 where
   pub deferred_texts : AllByRecursion (IsText span' bytes') deferred
   pub queued_texts : AllByRecursion (IsText span' bytes') queue

@@ -2,6 +2,8 @@
 #![tactic(auto)]
 
 mod path;
+#[cfg(test)]
+mod tests;
 mod write;
 
 pub use path::Path;
