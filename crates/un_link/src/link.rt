@@ -8,6 +8,7 @@ ghost use Rattle.un_lane.specs.Fresh.{AreFresh};
 ghost use Rattle.un_link.specs.Link.{flights_of};
 
 mod control;
+mod drain;
 mod flight;
 mod settle;
 mod step;
