@@ -9,6 +9,7 @@ ghost use Rattle.un_link.specs.Link.{flights_of};
 
 mod control;
 mod flight;
+mod machine;
 mod settle;
 mod step;
 mod tells;
