@@ -10,6 +10,7 @@ ghost use Rattle.un_link.specs.Link.{flights_of};
 mod control;
 mod drain;
 mod flight;
+mod machine;
 mod settle;
 mod step;
 mod tells;
