@@ -15,3 +15,4 @@ pub mod BothLanes
 pub mod Ordering
 pub mod Controlling
 pub mod Settling
+pub mod Lawfully

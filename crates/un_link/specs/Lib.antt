@@ -4,3 +4,4 @@ pub mod Link
 pub mod Ends
 pub mod Drain
 pub mod Orders
+pub mod Lawful
