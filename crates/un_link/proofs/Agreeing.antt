@@ -16,15 +16,16 @@ pub record IsAgreement (p : Params) (a : Agreed) : Type 0 where
   pub agree : Agree p
   pub params_are : a.params ≡ p
 
-same : (x y : Agreed) → Ok {B = SetupFault} x ≡ Ok y → x.params ≡ y.params
-same x y e = cc
+params_in : Params → Result Agreed SetupFault → Params
+params_in p (Ok a) = a.params
+params_in p (Err e) = p
 
 pub agreed_is : (p : Params) (a : Agreed) → agreed_of p ≡ Ok a → IsAgreement p a
-unfolding agreed_of
+unfolding agreed_of params_in
 agreed_is p a e = go (tested_as p.class p) refl e
   where
     go : (t : Result (Unit {0}) SetupFault) → tested_as p.class p ≡ t → (t >>= λ _. Ok (agreement p)) ≡ Ok a → IsAgreement p a
-    go (Ok u) q e = record { agree = tests_pass p.class p q; params_are = sym (same (agreement p) a e) }
+    go (Ok u) q e = record { agree = tests_pass p.class p q; params_are = sym (ap (params_in p) e) }
     go (Err f) q e = absurd (cc)
 
 -- NEW ENDS

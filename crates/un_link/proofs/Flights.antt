@@ -1,5 +1,5 @@
 -- A link after a take and after a landing.
-use Rattle.std.proofs.Common.{◌≡◌, ℕ, ◌+◌, ◌<◌, Bool, true, false, List, [], ◌∷◌, ◌++◌, Option, Some, None, refl, sym, ap, ◌∙◌, subst, arith, append_assoc}
+use Rattle.std.proofs.Common.{◌≡◌, ℕ, ◌+◌, ◌<◌, Bool, true, false, ◌&&◌, List, [], ◌∷◌, ◌++◌, Option, Some, None, refl, sym, ap, ◌∙◌, subst, arith, append_assoc}
 use Rattle.un_frame.specs.declared.params.Lane.{Lane}
 use Rattle.un_frame.specs.declared.params.Lane.TheVariants.{Outward, Inward}
 use Rattle.un_frame.specs.Lanes.{same_lane}
@@ -11,12 +11,12 @@ use Rattle.un_journal.specs.declared.got.Got.TheVariants.{Part, Cut, Not}
 use Rattle.un_journal.specs.Census.{one_if}
 use Rattle.un_journal.specs.Flights.{times, same_flight, Gains, Loses, Takes}
 use Rattle.un_journal.specs.Script.{Script}
-use Rattle.un_journal.specs.History.{History, past, flying}
+use Rattle.un_journal.specs.History.{History, past, flying, is_empty}
 use Rattle.un_journal.specs.Log.{Log}
 use Rattle.un_journal.specs.declared.actions.Action.{Action}
 use Rattle.un_journal.specs.declared.lines.Line.TheVariants.{Flying, Cut as CutLine}
 use Rattle.un_journal.specs.LaneSteps.{lines_in, bare}
-use Rattle.un_journal.specs.Step.{Work, work, land_from, move_after, outcome}
+use Rattle.un_journal.specs.Step.{Work, work, land_from, move_after, outcome, quiet}
 use Rattle.un_journal.specs.Fits.{Works}
 use Rattle.un_journal.proofs.LaneFacts.{lane_of}
 use Rattle.un_lane.specs.Way.{Way}
@@ -24,6 +24,7 @@ use Rattle.un_lane.specs.Stands.{flight_serial}
 use Rattle.un_link.specs.declared.cursors.Cursors.{Cursors}
 use Rattle.un_link.specs.Keeps.{AreRead, Keeps}
 use Rattle.un_link.specs.Link.{Link, Holds, Steps, flight_in, lane_flights, flights_of}
+use Rattle.un_link.specs.Ends.{is_finished}
 use Rattle.un_link.specs.Flights.{LaneTrip, flight_of, got_outcome, taken_of, taken_lines, landed_lines, Goes, Came, path_flights, TakesOut, BringsBack, across, flights_in, TakesFrom, LandsIn}
 use Rattle.un_link.proofs.Frames.{is_calm, calm_same}
 use Rattle.un_link.proofs.Holding.{act_logged, read_same, is_worked}
@@ -259,3 +260,29 @@ reaps lane old new k s h t =
       answers = refl;
       flights_are = same_flights lane old new (t.came.none_is ∙ sym t.came.none_was) t.others;
     })
+
+-- QUIET LINKS
+
+no_flights : (lane : Lane) (g : History) (o : Option FlightRecord) (ks : List ℕ) → ks ≡ flight_serial o → is_empty ks ≡ true → lane_flights lane g o ≡ []
+no_flights lane g None ks e q = refl
+no_flights lane g (Some f) [] e q = absurd (cc)
+no_flights lane g (Some f) (k ∷ ks) e q = absurd (cc)
+
+three_true : (a b c : Bool) → (a && b && c) ≡ true → (a ≡ true) × (b ≡ true)
+three_true true true c e = (refl, refl)
+three_true true false c e = absurd (cc)
+three_true false b c e = absurd (cc)
+
+-- no flight is out of a quiet link
+pub quiet_none : (link : Link) → Holds link → quiet link.script link.log.history ≡ true → flights_of link ≡ []
+quiet_none link k q =
+    let t = three_true _ _ _ q in
+    ap (λ fs. fs ++ flights_in Inward link) (no_flights Outward (past Outward link.log.history) link.out.bus.flight (flying (past Outward link.log.history)) k.out_keeps.stands.queues.fly t.0)
+    ∙ no_flights Inward (past Inward link.log.history) link.inward.bus.flight (flying (past Inward link.log.history)) k.in_keeps.stands.queues.fly t.1
+
+quiet_of : (a b : Bool) → (a && b) ≡ true → a ≡ true
+quiet_of true b e = refl
+quiet_of false b e = absurd (cc)
+
+pub finished_none : (link : Link) → Holds link → is_finished link.script link.log.history ≡ true → flights_of link ≡ []
+finished_none link k f = quiet_none link k (quiet_of _ _ f)

@@ -7,6 +7,7 @@ pub mod Rooms
 pub mod Fresh
 pub mod Resting
 pub mod Agreeing
+pub mod Draining
 pub mod SameFlights
 pub mod Takings
 pub mod Flights
@@ -14,3 +15,4 @@ pub mod BothLanes
 pub mod Ordering
 pub mod Controlling
 pub mod Settling
+pub mod Lawfully

@@ -14,7 +14,6 @@ use Rattle.un_journal.specs.Lookup.{phase_of, is_stopping, is_leaving, is_asleep
 use Rattle.un_journal.specs.LaneSteps.{Outcome, Writes, Answers}
 use Rattle.un_journal.specs.Step.{Work, work, is_still, away, all_home, settle, settled_line, other_works, quiet}
 use Rattle.un_journal.specs.Fits.{Legal, IsDone}
-use Rattle.un_journal.proofs.Homes.{away_some, away_none}
 use Rattle.un_journal.proofs.Closed.{quiet_done}
 use Rattle.un_journal.proofs.LinkFacts.{lane_still, quiet_parts}
 use Rattle.un_lane.specs.Way.{Way}
@@ -25,22 +24,14 @@ use Rattle.un_link.specs.Keeps.{Keeps}
 use Rattle.un_link.specs.Link.{Link, Holds}
 use Rattle.un_link.specs.Ends.{is_finished, offers_still}
 
--- all requests are home exactly where none is away
-pub away_is : (script : Script) (h : History) → Legal script h → (away script h == 0) ≡ all_home script h
-away_is script h legal = go (all_home script h) refl
-  where
-    go : (b : Bool) → all_home script h ≡ b → (away script h == 0) ≡ b
-    go true e = ap (λ n. n == 0) (away_none script h e)
-    go false e = let low : 0 < away script h = away_some script h legal e in ne_eqb (away script h) 0 (λ z. absurd (omega (arith, z)))
-
 -- whether a stop would settle
-pub settle_still : (script : Script) (h : History) → Legal script h → is_still (work script h Work.Settle) ≡ not ((is_stopping (phase_of script h) || is_leaving (phase_of script h)) && (away script h == 0))
-settle_still script h legal = go (is_stopping (phase_of script h) || is_leaving (phase_of script h)) (all_home script h) (sym (away_is script h legal))
+settle_still : (script : Script) (h : History) → is_still (work script h Work.Settle) ≡ not ((is_stopping (phase_of script h) || is_leaving (phase_of script h)) && all_home script h)
+settle_still script h = go (is_stopping (phase_of script h) || is_leaving (phase_of script h)) (all_home script h)
   where
-    go : (a b : Bool) → b ≡ (away script h == 0) → is_still (if not a then Answers Answer.Nothing else (if b then Writes ((settled_line script h, []) ∷ []) else Answers (Answer.Away (away script h)))) ≡ not (a && (away script h == 0))
-    go false b e = refl
-    go true true e = ap not e
-    go true false e = ap not e
+    go : (a b : Bool) → is_still (if not a then Answers Answer.Nothing else (if b then Writes ((settled_line script h, []) ∷ []) else Answers (Answer.Away (away script h)))) ≡ not (a && b)
+    go false b = refl
+    go true true = refl
+    go true false = refl
 
 -- a lane is still where its path is
 pub path_still : (script : Script) (h : History) (lane : Lane) (way : Way) → way.lane ≡ lane → way.tx.params ≡ script.params
@@ -69,10 +60,10 @@ finished_done script h legal e =
 
 -- OF A LINK
 
-pub would_settle_is : (link : Link) (n : ℕ) → Holds link → (is_stopping link.phase || is_leaving link.phase) ≡ true → n ≡ away link.script link.log.history → is_still (work link.script link.log.history Work.Settle) ≡ not (n == 0)
-would_settle_is link n k e a =
-    settle_still link.script link.log.history k.logged.legal
-    ∙ (ap (λ b. not (b && (away link.script link.log.history == 0))) (ap (λ p. is_stopping p || is_leaving p) (sym k.phase_is) ∙ e) ∙ ap (λ m. not (m == 0)) (sym a))
+pub would_settle_is : (link : Link) (home : Bool) → Holds link → (is_stopping link.phase || is_leaving link.phase) ≡ true → home ≡ all_home link.script link.log.history → is_still (work link.script link.log.history Work.Settle) ≡ not home
+would_settle_is link home k e a =
+    settle_still link.script link.log.history
+    ∙ (ap (λ b. not (b && all_home link.script link.log.history)) (ap (λ p. is_stopping p || is_leaving p) (sym k.phase_is) ∙ e) ∙ ap not (sym a))
 
 -- what a path tells of a lane
 abbrev pub Tells : Bool → Way → Phase → Type 0

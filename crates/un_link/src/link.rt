@@ -8,7 +8,9 @@ ghost use Rattle.un_lane.specs.Fresh.{AreFresh};
 ghost use Rattle.un_link.specs.Link.{flights_of};
 
 mod control;
+mod drain;
 mod flight;
+mod machine;
 mod settle;
 mod step;
 mod tells;

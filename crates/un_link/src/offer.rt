@@ -4,7 +4,7 @@ ghost use Rattle.std.specs.Prelude.{◌≡◌, ◌≢◌, ◌||◌, ◌+◌, ◌
 ghost use Rattle.un_frame.specs.declared.kinds.Verdict.TheVariants.{Take};
 ghost use Rattle.un_frame.specs.Verdict.{verdict_of};
 ghost use Rattle.un_journal.specs.History.{past, consumed, more_if};
-ghost use Rattle.un_journal.specs.Lookup.{feed_head, feeds_empty, phase_of, works};
+ghost use Rattle.un_journal.specs.Lookup.{feed_head, phase_of, works};
 ghost use Rattle.un_journal.specs.LaneSteps.{lines_in};
 ghost use Rattle.un_journal.specs.Step.{Offer, is_still, work};
 ghost use Rattle.un_lane.specs.Way.{HasRoom};
@@ -142,21 +142,4 @@ fn stays<T: TxEnd + Drop, R: RxEnd + Drop>(
         Verdict::Take => !path.can_offer(frame.len() as u32),
         _ => false,
     }
-}
-
-/// Whether the lane's four feeds are empty.
-pub(crate) fn feeds_are_empty(
-    read: &Cursors,
-    journal: &Journal,
-    script: &Script,
-    lane: Lane,
-) -> bool
-    requires { AreRead read.now (past lane journal.now.history) }
-    ensures { result ≡ feeds_empty script.now lane (past lane journal.now.history) }
-{
-    let _ = journal;
-    script.frame(lane, 0, read.at(0)).is_none()
-        && script.frame(lane, 1, read.at(1)).is_none()
-        && script.frame(lane, 2, read.at(2)).is_none()
-        && script.frame(lane, 3, read.at(3)).is_none()
 }

@@ -1,0 +1,10 @@
+use Rattle.std.proofs.Common.{subst}
+use Rattle.un_journal.specs.Fits.{Legal}
+use Rattle.un_link.specs.Lawful.{AtEveryMoment}
+use Rattle.un_link.specs.Link.{Link}
+use Rattle.un_link.proofs.Lawfully.{lawful_moments}
+use Rattle.un_link.proofs.link.LinkOver.journal.Goals as goal
+
+pub returns-clause-moments : goal.returns-clause-moments
+returns-clause-moments g c =
+    subst (λ (l : Link). AtEveryMoment l.script l.log.history) c.self.view_is (lawful_moments c.self.inside.script c.self.inside.journal.history c.self.invariant.logged.in_range c.self.invariant.logged.agree)

@@ -1,0 +1,128 @@
+//! The serial drain.
+
+ghost use Rattle.std.specs.Prelude.{◌≡◌, ◌<◌, [], Some, slice_get};
+ghost use Rattle.un_journal.specs.Drain.{drain, round, run};
+ghost use Rattle.un_journal.specs.Fits.{IsDone};
+ghost use Rattle.un_link.specs.Drain.{DrainsOn};
+ghost use Rattle.un_link.specs.Link.{flights_of};
+
+use crate::link::LinkOver;
+use un_endpoint::{RxEnd, TxEnd};
+use un_frame::Lane;
+use un_journal::{Action, Answer};
+
+/// A round of the drain: every action once, in this order.
+const ROUND: [Action; 26] = [
+    Action::Control { force: false },
+    Action::Refill {
+        lane: Lane::Outward,
+    },
+    Action::Refill { lane: Lane::Inward },
+    Action::Offer {
+        lane: Lane::Outward,
+        sender: 0,
+    },
+    Action::Offer {
+        lane: Lane::Outward,
+        sender: 1,
+    },
+    Action::Offer {
+        lane: Lane::Outward,
+        sender: 2,
+    },
+    Action::Offer {
+        lane: Lane::Outward,
+        sender: 3,
+    },
+    Action::Offer {
+        lane: Lane::Inward,
+        sender: 0,
+    },
+    Action::Offer {
+        lane: Lane::Inward,
+        sender: 1,
+    },
+    Action::Offer {
+        lane: Lane::Inward,
+        sender: 2,
+    },
+    Action::Offer {
+        lane: Lane::Inward,
+        sender: 3,
+    },
+    Action::Tick {
+        lane: Lane::Outward,
+    },
+    Action::Tick { lane: Lane::Inward },
+    Action::Move {
+        lane: Lane::Outward,
+    },
+    Action::Move { lane: Lane::Inward },
+    Action::TxDone {
+        lane: Lane::Outward,
+    },
+    Action::TxDone { lane: Lane::Inward },
+    Action::RxDone {
+        lane: Lane::Outward,
+    },
+    Action::RxDone { lane: Lane::Inward },
+    Action::Deliver {
+        lane: Lane::Outward,
+    },
+    Action::Deliver { lane: Lane::Inward },
+    Action::Unlink {
+        lane: Lane::Outward,
+    },
+    Action::Unlink { lane: Lane::Inward },
+    Action::ClearHalt {
+        lane: Lane::Outward,
+    },
+    Action::ClearHalt { lane: Lane::Inward },
+    Action::Settle,
+];
+
+impl<A: TxEnd + Drop, B: RxEnd + Drop, C: TxEnd + Drop, D: RxEnd + Drop> LinkOver<A, B, C, D> {
+    /// Repeats a round of every action; after a round that did nothing the next control is forced. It ends where no control is left. No flight is out at its start; afterwards the link is finished.
+    pub fn drain(&mut self)
+        requires { flights_of self.old ≡ [] }
+        ensures script { self.new.script ≡ self.old.script }
+        ensures history { self.new.log.history ≡ drain self.old.script self.old.log.history }
+        ensures done { IsDone self.new.script self.new.log.history }
+        ensures flights { flights_of self.new ≡ [] }
+    {
+        let _ = &self.journal;
+        while self.drain_on() {}
+    }
+
+    /// A round, and where it did nothing a forced control; false where that did nothing either.
+    fn drain_on(&mut self) -> bool
+        ensures { DrainsOn self.old self.new result }
+    {
+        let before = self.journal.len();
+        self.round();
+        if self.journal.len() > before {
+            return true;
+        }
+        self.step(Action::Control { force: true });
+        self.journal.len() > before
+    }
+
+    /// Every action once.
+    fn round(&mut self)
+        ensures script { self.new.script ≡ self.old.script }
+        ensures history { self.new.log.history ≡ run self.old.script self.old.log.history round }
+        ensures flights { flights_of self.new ≡ flights_of self.old }
+    {
+        for index in 0..26 {
+            self.step(action_at(index));
+        }
+    }
+}
+
+/// The action of the round with this index.
+fn action_at(index: usize) -> Action
+    requires { index < 26 }
+    ensures { slice_get round index ≡ Some result }
+{
+    ROUND[index]
+}
