@@ -11,7 +11,7 @@ use Rattle.un_script.specs.declared.why.Why.{Why}
 use Rattle.un_script.specs.Reading.{script_of}
 use Rattle.un_setup.specs.declared.agreement.Agreed.{Agreed}
 use Rattle.un_wire.proofs.CursorLemmas.{readings_are_one}
-use Rattle.usbnet_run.specs.Command.{DecodeIsComplete, IsComplete, IsDrained, IsUnagreed, Prints, RefusalsAreExact, bad_words, decodes, no_memory, read_fault, runs, too_large}
+use Rattle.usbnet_run.specs.Command.{DecodeIsComplete, IsComplete, IsDrained, IsUnagreed, HasPrinted, RefusalsAreExact, bad_words, decodes, no_memory, read_fault, runs, too_large}
 use Rattle.usbnet_run.specs.Decode.{IsOutside, bad_transfer, decoded, decoded_text, stopped}
 use Rattle.usbnet_run.specs.Runs.{IsNoScript, IsRun, not_a_script, not_agreed, output, print_stopped, printed, refused, wants_memory}
 use Rattle.usbnet_run.specs.Words.{command_of}
@@ -51,10 +51,10 @@ script_read text given left script c whole is = ap script_of (sym (gave_all text
 
 -- what was printed belongs to the script
 is_printed : (script other : Script) (agreed : Agreed) (history : History) (given : List ℕ) (held held' : Option (List ℕ)) → script_of given ≡ Ok script → IsRun IsDrained given other agreed history
-    → Appends held held' (output other agreed history) → Prints script held held'
+    → Appends held held' (output other agreed history) → HasPrinted script held held'
 is_printed script other agreed history given held held' is run t =
     let same : other ≡ script = one_script other script (script_of given) run.script_is is in
-    let P : Script → Type 0 = λ s. Prints s held held' in
+    let P : Script → Type 0 = λ s. HasPrinted s held held' in
     subst P same (record { agreed = agreed; agreed_is = run.agreed_is; all = subst (λ h. Appends held held' (output other agreed h)) run.ends_with t })
 
 pub complete : IsComplete

@@ -67,7 +67,7 @@ RefusalsAreExact = (words : List (List ℕ)) (given : List ℕ) (left held held'
     → Ends words given left held held' faults faults' status → RefusesExactly words given status
 
 -- the sink grew by what a script's drain prints
-pub record Prints (script : Script) (held held' : Option (List ℕ)) : Type 0 where
+pub record HasPrinted (script : Script) (held held' : Option (List ℕ)) : Type 0 where
   pub agreed : Agreed
   pub agreed_is : agreed_of script.params ≡ Ok agreed
   pub all : Appends held held' (output script agreed (drain script []))
@@ -78,7 +78,7 @@ abbrev pub IsComplete : Type 0
 IsComplete = (words : List (List ℕ)) (text given : List ℕ) (left held held' : Option (List ℕ)) (faults faults' : ℕ) (script : Script) (status : ℕ)
     → Ends words given left held held' faults faults' status → Consumes (Some text) left given
     → command_of words ≡ Some Serial → length text ≤ MOST_INPUT → script_of text ≡ Ok script → Agree script.params
-    → (status ≡ 2 → ⊥) → (status ≡ 3 → ⊥) → ((status ≡ 0) × (given ≡ text) × Prints script held held') ⊎ (status ≡ 1)
+    → (status ≡ 2 → ⊥) → (status ≡ 3 → ⊥) → ((status ≡ 0) × (given ≡ text) × HasPrinted script held held') ⊎ (status ≡ 1)
 
 -- The same of a transfer that the class's grammar reads: at 0 the whole of it was read, and the sink grew by its text.
 abbrev pub DecodeIsComplete : Type 0

@@ -2,6 +2,7 @@
 use Rattle.std.specs.Prelude.{◌≡◌, ℕ, List, ◌∷◌, ◌++◌, codes, decimal, Option, Ok, Err}
 use Rattle.std.specs.Io.KnownBytes.{Appends}
 use Rattle.un_frame.specs.declared.params.Lane.{Lane}
+use Rattle.un_frame.specs.declared.params.Params.{Params}
 use Rattle.un_frame.specs.Params.{Agree}
 use Rattle.un_io.specs.Io.{Stopped}
 use Rattle.un_journal.specs.Script.{Script, frames_of}
@@ -74,6 +75,17 @@ pub data Refuses (given' : List ℕ) (held held' : Option (List ℕ)) (faults fa
       → Tells held held' faults faults' (bad_script_line line why) → Refuses given' held held' faults faults' 5
   not_agreed : (script : Script) (fault : SetupFault) → script_of given' ≡ Ok script → agreed_of script.params ≡ Err fault → (Agree script.params → ⊥)
       → Tells held held' faults faults' (setup_line fault) → Refuses given' held held' faults faults' 6
+
+-- what keeps two ends from an agreement, and the line that it writes
+pub data Disagrees (params : Params) (held held' : Option (List ℕ)) (faults faults' : ℕ) : ℕ → Type 0 where
+  no_room : Tells held held' faults faults' (codes "no memory\n") → Disagrees params held held' faults faults' 1
+  disagreed : (fault : SetupFault) → agreed_of params ≡ Err fault → (Agree params → ⊥)
+      → Tells held held' faults faults' (setup_line fault) → Disagrees params held held' faults faults' 6
+
+-- how the printing of a history ends
+pub data Prints (script : Script) (agreed : Agreed) (history : History) (held held' : Option (List ℕ)) : ℕ → Type 0 where
+  all_of_it : Appends held held' (output script agreed history) → Prints script agreed history held held' 0
+  front_of_it : Stopped held held' (output script agreed history) → Prints script agreed history held held' 3
 
 -- How a run ends, by the status: at 0 the sink grew by the output; at 3 by a front of it, and not all; else it was refused.
 pub data Runs (EndsWith : Script → History → Type 0) (given' : List ℕ) (held held' : Option (List ℕ)) (faults faults' : ℕ) : ℕ → Type 0 where

@@ -1,16 +1,20 @@
 //! A link for a script's text.
 
-ghost use Rattle.std.specs.Prelude.{◌≡◌, ◌≤◌, ◌∷◌, ◌++◌, IfErr, IfOk, codes, decimal, length};
-ghost use Rattle.usbnet_run.specs.Runs.{Refuses, bad_script_line, setup_line, why_word};
+ghost use Rattle.std.specs.Prelude.{◌≡◌, ◌≤◌, ◌∷◌, ◌++◌, IfErr, IfOk, Ok, codes, decimal, length};
+ghost use Rattle.un_frame.specs.Params.{Agree, AreInRange};
+ghost use Rattle.un_script.specs.Reading.{script_of};
+ghost use Rattle.un_setup.specs.Agreement.{agreed_of};
+ghost use Rattle.usbnet_run.specs.Runs.{Disagrees, Refuses, bad_script_line, setup_line, why_word};
 ghost use Rattle.usbnet_run.specs.Refusals.{Tells};
-ghost use Rattle.usbnet_run.specs.Prepared.{IsPrepared};
+ghost use Rattle.usbnet_run.specs.Prepared.{IsNew, IsPrepared};
 
 use crate::command::tell;
 use std::alloc::Global;
+use un_frame::Params;
 use un_io::Sink;
 use un_journal::{Buffer, number, word};
 use un_link::Link;
-use un_script::{ScriptError, Why, read};
+use un_script::{Script, ScriptError, Why, read};
 use un_setup::{Agreed, SetupFault, agree};
 
 /// A new link, and what its two ends agreed on.
@@ -106,6 +110,69 @@ fn tell_setup<O: Sink>(out: &mut O, fault: SetupFault)
     }
 }
 
+/// The script of a text, or the status of its refusal, whose line was written, or a front of it: 1 for want of memory, 5 where the text is no script.
+fn read_script<O: Sink>(alloc: Global, out: &mut O, text: Vec<u8>) -> Result<Script, u8>
+    ensures script { IfOk result (λ script. script_of text.items ≡ Ok script) }
+    ensures silent { IfOk result (λ script. O.held out.new ≡ O.held out.old) }
+    ensures refused { IfErr result (λ status. Refuses text.items (O.held out.old) (O.held out.new) (O.faults out.old) (O.faults out.new) status) }
+    ensures never_falls { O.faults out.old ≤ O.faults out.new }
+{
+    match read(alloc, &text) {
+        Ok(script) => Ok(script),
+        Err(ScriptError::BadLine { line, why }) => {
+            tell_bad_script(out, line, why);
+            Err(5)
+        }
+        Err(ScriptError::NoMemory) => {
+            tell(out, b"no memory\n");
+            Err(1)
+        }
+    }
+}
+
+/// What two ends agree on, or the status of the refusal, whose line was written, or a front of it: 1 for want of memory, 6 where the parameters don't agree.
+fn set_up<O: Sink>(alloc: Global, out: &mut O, params: &Params) -> Result<Agreed, u8>
+    requires { AreInRange params.now }
+    ensures agreed { IfOk result (λ agreed. (agreed_of params.now ≡ Ok agreed) × Agree params.now) }
+    ensures silent { IfOk result (λ agreed. O.held out.new ≡ O.held out.old) }
+    ensures refused { IfErr result (λ status. Disagrees params.now (O.held out.old) (O.held out.new) (O.faults out.old) (O.faults out.new) status) }
+    ensures never_falls { O.faults out.old ≤ O.faults out.new }
+{
+    match agree(alloc, params) {
+        Ok(agreed) => Ok(agreed),
+        Err(SetupFault::NoMemory) => {
+            tell(out, b"no memory\n");
+            Err(1)
+        }
+        Err(fault) => {
+            tell_setup(out, fault);
+            Err(6)
+        }
+    }
+}
+
+/// The link of a script, or the status 1 for want of memory, whose line was written, or a front of it.
+fn new_link<O: Sink>(
+    alloc: Global,
+    out: &mut O,
+    script: Script,
+    agreed: Agreed,
+) -> Result<Prepared, u8>
+    requires { agreed_of script.params ≡ Ok agreed }
+    ensures link { IfOk result (λ p. IsNew script p.link × (p.agreed ≡ agreed)) }
+    ensures silent { IfOk result (λ p. O.held out.new ≡ O.held out.old) }
+    ensures refused { IfErr result (λ status. (status ≡ 1) × Tells (O.held out.old) (O.held out.new) (O.faults out.old) (O.faults out.new) (codes "no memory\n")) }
+    ensures never_falls { O.faults out.old ≤ O.faults out.new }
+{
+    match Link::make(alloc, script, &agreed) {
+        Ok(link) => Ok(Prepared { link, agreed }),
+        Err(_) => {
+            tell(out, b"no memory\n");
+            Err(1)
+        }
+    }
+}
+
 /// Reads a script, lets the two ends agree on its parameters, and makes the link. A refusal's status comes with its line, or a front of it, in the sink: 1 for want of memory, 5 where the text is no script, 6 where
 /// its parameters don't agree. Nothing is written where there is a link.
 pub fn prepare<O: Sink>(alloc: Global, out: &mut O, text: Vec<u8>) -> Result<Prepared, u8>
@@ -114,35 +181,14 @@ pub fn prepare<O: Sink>(alloc: Global, out: &mut O, text: Vec<u8>) -> Result<Pre
     ensures refused { IfErr result (λ status. Refuses text.items (O.held out.old) (O.held out.new) (O.faults out.old) (O.faults out.new) status) }
     ensures never_falls { O.faults out.old ≤ O.faults out.new }
 {
-    let script = match read(alloc, &text) {
+    let script = match read_script(alloc, out, text) {
         Ok(script) => script,
-        Err(ScriptError::BadLine { line, why }) => {
-            tell_bad_script(out, line, why);
-            return Err(5);
-        }
-        Err(ScriptError::NoMemory) => {
-            tell(out, b"no memory\n");
-            return Err(1);
-        }
+        Err(status) => return Err(status),
     };
-    drop(text);
     script.is_ready();
-    let agreed = match agree(alloc, script.params()) {
+    let agreed = match set_up(alloc, out, script.params()) {
         Ok(agreed) => agreed,
-        Err(SetupFault::NoMemory) => {
-            tell(out, b"no memory\n");
-            return Err(1);
-        }
-        Err(fault) => {
-            tell_setup(out, fault);
-            return Err(6);
-        }
+        Err(status) => return Err(status),
     };
-    match Link::make(alloc, script, &agreed) {
-        Ok(link) => Ok(Prepared { link, agreed }),
-        Err(_) => {
-            tell(out, b"no memory\n");
-            Err(1)
-        }
-    }
+    new_link(alloc, out, script, agreed)
 }

@@ -1,5 +1,6 @@
 use Rattle.std.proofs.Common.{◌≡◌, ◌∙◌, sym, ap, slice_get, ◌+◌, ◌<◌, ◌^◌, arith}
 use Rattle.un_link.proofs.Controlling.{did_room, did_keep, order_room, order_holds, order_steps, index_small}
+use Rattle.un_link.proofs.Refusing.{hindered_steps}
 use Rattle.un_link.proofs.link.LinkOver.order.Goals as goal
 
 pub push-requires-clause-lines : goal.push-requires-clause-lines
@@ -39,3 +40,8 @@ returns g c =
     (order_steps _ c.self.invariant c.args.due c.args.forced (rw (← c.self.view_is) at c.requires.head) (rw (← c.self.view_is) at c.requires.fits) (rw (← c.self.view_is) at (sym c.hinders-count.ensures ∙ none))
     c.push.new.self c.push.ensures.history c.push.ensures.lines c.push.ensures.bytes
     c.obey.new.journal c.obey.new.out c.obey.new.inward c.obey.ensures)
+
+pub returns-then-count-gt0 : goal.returns-then-count-gt0
+returns-then-count-gt0 g c =
+    let held = c.self.invariant in
+    rw (← c.self.view_is) (hindered_steps _ c.args.due c.args.forced c.hinders-count.result held.phase_is (rw (← c.self.view_is) at c.hinders-count.ensures) (omega arith))
