@@ -16,3 +16,4 @@ pub mod Ordering
 pub mod Controlling
 pub mod Settling
 pub mod Lawfully
+pub mod Standing
