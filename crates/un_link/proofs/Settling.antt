@@ -1,20 +1,18 @@
 -- A link after the end of a stop.
-use Rattle.std.proofs.Common.{◌≡◌, ℕ, suc, ◌+◌, ◌<◌, ◌≤◌, Bool, true, false, ◌&&◌, ◌||◌, ◌==◌, List, [], ◌∷◌, ◌++◌, length, reverse, Option, Some, None, refl, sym, ap, ◌∙◌, subst, arith}
+use Rattle.std.proofs.Common.{◌≡◌, ℕ, ◌+◌, ◌<◌, ◌≤◌, Bool, true, false, not, if◌then◌else◌, ◌||◌, ◌==◌, [], ◌∷◌, ◌++◌, reverse, Option, Some, None, refl, sym, ap, ◌∙◌, subst, arith}
 use Rattle.un_frame.specs.declared.params.Lane.{Lane}
 use Rattle.un_frame.specs.declared.params.Lane.TheVariants.{Outward, Inward}
-use Rattle.un_frame.specs.declared.params.Params.{Params}
 use Rattle.un_frame.specs.declared.kinds.Phase.{Phase}
 use Rattle.un_frame.specs.declared.kinds.Phase.TheVariants.{Up, Asleep, Stopping, Leaving, Down, Away}
 use Rattle.un_endpoint.specs.declared.record.FlightRecord.{FlightRecord}
-use Rattle.un_journal.specs.declared.lines.Line.{Line}
 use Rattle.un_journal.specs.declared.lines.Line.TheVariants.{Settled}
 use Rattle.un_journal.specs.declared.actions.Answer.{Answer}
 use Rattle.un_journal.specs.Script.{Script}
 use Rattle.un_journal.specs.History.{History, past}
 use Rattle.un_journal.specs.Log.{Log}
-use Rattle.un_journal.specs.Lookup.{phase_of, phase_after, after_settled, controls_done, is_asleep, built_frames, tx_home, rx_home}
-use Rattle.un_journal.specs.LaneSteps.{Writes, lines_in, answer_in, bare}
-use Rattle.un_journal.specs.Step.{Work, settle, settled_line, all_home}
+use Rattle.un_journal.specs.Lookup.{is_stopping, is_leaving, phase_of, phase_after, after_settled, controls_done, is_asleep, built_frames, tx_home, rx_home}
+use Rattle.un_journal.specs.LaneSteps.{Writes, Answers, lines_in, answer_in, bare}
+use Rattle.un_journal.specs.Step.{Work, settle, settled_line, all_home, away}
 use Rattle.un_journal.specs.Fits.{Works}
 use Rattle.un_journal.proofs.Onto.{newest, past_onto}
 use Rattle.un_lane.specs.Way.{Way, HasRoom, Adds}
@@ -22,8 +20,11 @@ use Rattle.un_lane.specs.Phases.{Agrees}
 use Rattle.un_lane.specs.Controls.{settled}
 use Rattle.un_lane.specs.Stands.{Stands}
 use Rattle.un_link.specs.Keeps.{AreRead, Keeps}
-use Rattle.un_link.specs.Link.{Link, Holds, Steps, flights_of, lane_flights}
+use Rattle.un_link.specs.Link.{Link, Holds, Steps, lane_flights}
 use Rattle.un_link.proofs.Holding.{act_room, act_logged}
+use Rattle.un_link.proofs.Resting.{away_is}
+use Rattle.un_link.proofs.Controlling.{same_steps}
+use Rattle.std.proofs.lemmas.Bool.{ne_eqb}
 use Rattle.un_link.proofs.Offers.{pushed}
 
 -- A PATH AFTER THE SETTLED LINE
@@ -92,13 +93,6 @@ same_flights lane g a b c d f f' e = ap (lane_flights lane (bare (Settled a b c 
 
 -- THE REQUESTS AT HOME
 
--- what a path says of its lane's requests
-pub homes_are : (script : Script) (phase : Phase) (lane : Lane) (way : Way) (g : History) (tx rx : ℕ) → way.lane ≡ lane → Keeps script phase way g
-    → ((h : History) → Stands way h → (tx ≡ tx_home way.tx.params way.lane h) × (rx ≡ rx_home way.tx.params way.lane h)) → (tx ≡ tx_home script.params lane g) × (rx ≡ rx_home script.params lane g)
-homes_are script phase lane way g tx rx e k f =
-    subst (λ l. (tx ≡ tx_home script.params l g) × (rx ≡ rx_home script.params l g)) e
-    (subst (λ (p : Params). (tx ≡ tx_home p way.lane g) × (rx ≡ rx_home p way.lane g)) k.params_are (f g k.stands))
-
 -- the four numbers of a link
 pub record AreHomes (script : Script) (h : History) (a b c d : ℕ) : Type 0 where
   pub tx_out : a ≡ tx_home script.params Outward (past Outward h)
@@ -106,21 +100,29 @@ pub record AreHomes (script : Script) (h : History) (a b c d : ℕ) : Type 0 whe
   pub tx_in : c ≡ tx_home script.params Inward (past Inward h)
   pub rx_in : d ≡ rx_home script.params Inward (past Inward h)
 
-pub four_homes : (link : Link) (a b c d : ℕ) → Holds link
-    → ((h : History) → Stands link.out h → (a ≡ tx_home link.out.tx.params link.out.lane h) × (b ≡ rx_home link.out.tx.params link.out.lane h))
-    → ((h : History) → Stands link.inward h → (c ≡ tx_home link.inward.tx.params link.inward.lane h) × (d ≡ rx_home link.inward.tx.params link.inward.lane h))
-    → AreHomes link.script link.log.history a b c d
-four_homes link a b c d k fo fi =
-    let o = homes_are link.script link.phase Outward link.out (past Outward link.log.history) a b k.out_lane k.out_keeps fo in
-    let i = homes_are link.script link.phase Inward link.inward (past Inward link.log.history) c d k.in_lane k.in_keeps fi in
-    record { tx_out = o.0; rx_out = o.1; tx_in = i.0; rx_in = i.1 }
-
-pub all_home_is : (script : Script) (h : History) (a b c d : ℕ) → AreHomes script h a b c d
-    → (a == script.params.tx_out && b == script.params.rx_out && c == script.params.tx_in && d == script.params.rx_in) ≡ all_home script h
-all_home_is script h a b c d w = rw (w.tx_out, w.rx_out, w.tx_in, w.rx_in) refl
-
 line_is : (script : Script) (h : History) (a b c d : ℕ) → AreHomes script h a b c d → Settled a b c d ≡ settled_line script h
 line_is script h a b c d w = rw (w.tx_out, w.rx_out, w.tx_in, w.rx_in) refl
+
+-- WHETHER A STOP IS OVER
+
+ending : (link : Link) → Holds link → (is_stopping link.phase || is_leaving link.phase) ≡ true → (is_stopping (phase_of link.script link.log.history) || is_leaving (phase_of link.script link.log.history)) ≡ true
+ending link k e = ap (λ p. is_stopping p || is_leaving p) (sym k.phase_is) ∙ e
+
+settle_when : (link : Link) (b : Bool) → Holds link → (is_stopping link.phase || is_leaving link.phase) ≡ true → (away link.script link.log.history == 0) ≡ b
+    → settle link.script link.log.history ≡ (if b then Writes (bare (settled_line link.script link.log.history) ∷ []) else Answers (Answer.Away (away link.script link.log.history)))
+settle_when link b k e z =
+    ap (λ p. if not p then Answers Answer.Nothing else (if all_home link.script link.log.history then Writes (bare (settled_line link.script link.log.history) ∷ []) else Answers (Answer.Away (away link.script link.log.history)))) (ending link k e)
+    ∙ ap (λ p. if p then Writes (bare (settled_line link.script link.log.history) ∷ []) else Answers (Answer.Away (away link.script link.log.history))) (sym (away_is link.script link.log.history k.logged.legal) ∙ z)
+
+pub settle_fits : (link : Link) (n : ℕ) → Holds link → (is_stopping link.phase || is_leaving link.phase) ≡ true → n ≡ away link.script link.log.history → n ≡ 0
+    → settle link.script link.log.history ≡ Writes (bare (settled_line link.script link.log.history) ∷ [])
+settle_fits link n k e a z = settle_when link true k e (ap (λ i. i == 0) (sym a ∙ z))
+
+pub settle_waits : (link : Link) (n : ℕ) → Holds link → (is_stopping link.phase || is_leaving link.phase) ≡ true → n ≡ away link.script link.log.history → 0 < n
+    → Steps link link (settle link.script link.log.history) (Answer.Away n)
+settle_waits link n k e a low =
+    let some : (away link.script link.log.history == 0) ≡ false = ne_eqb (away link.script link.log.history) 0 (λ z. absurd (omega (arith, z, a))) in
+    same_steps link (settle link.script link.log.history) (Answer.Away n) (settle_when link false k e some ∙ ap (λ i. Answers (Answer.Away i)) (sym a))
 
 -- THE LINK
 

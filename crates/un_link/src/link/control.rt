@@ -1,8 +1,8 @@
 //! The controls of a link.
 
-ghost use Rattle.std.specs.Prelude.{◌≡◌, ◌||◌, Some, not, is_some, length, reverse, slice_get};
+ghost use Rattle.std.specs.Prelude.{◌≡◌, Some, not, is_some, length, reverse, slice_get};
 ghost use Rattle.un_journal.specs.History.{past, taken};
-ghost use Rattle.un_journal.specs.Lookup.{controls_done, feeds_empty, is_leaving, is_stopping};
+ghost use Rattle.un_journal.specs.Lookup.{controls_done, feeds_empty};
 ghost use Rattle.un_journal.specs.Script.{frames_of};
 ghost use Rattle.un_journal.specs.Step.{control, control_now, hinders, is_due};
 ghost use Rattle.un_lane.specs.Stands.{flight_serial};
@@ -11,19 +11,13 @@ ghost use Rattle.un_link.specs.Link.{Steps};
 
 use crate::cursors::Cursors;
 use crate::link::LinkOver;
+use crate::link::tells::is_ending;
 use crate::orders::{obey, phase_after};
 use un_endpoint::{RxEnd, TxEnd};
-use un_frame::{Lane, Phase};
+use un_frame::Lane;
 use un_journal::{Answer, Control, Due, Journal, Line};
 use un_lane::Path;
 use un_script::Script;
-
-/// Whether a stop or an unplugging isn't settled yet.
-pub(crate) fn stops(phase: Phase) -> bool
-    ensures { result ≡ (is_stopping phase || is_leaving phase) }
-{
-    matches!(phase, Phase::Stopping | Phase::Leaving)
-}
 
 /// How many flights of a lane are out: one or none.
 fn flights_out<T: TxEnd + Drop, R: RxEnd + Drop>(path: &Path<T, R>) -> u64
@@ -66,7 +60,7 @@ impl<A: TxEnd + Drop, B: RxEnd + Drop, C: TxEnd + Drop, D: RxEnd + Drop> LinkOve
             return Answer::NoControl;
         };
         let phase = self.phase;
-        if stops(phase) {
+        if is_ending(phase) {
             return Answer::Down { phase };
         }
         if self.is_due(due) {

@@ -1,4 +1,4 @@
-use Rattle.std.proofs.Common.{◌≡◌, ◌&&◌, false, ◌∙◌, sym, ap, refl}
+use Rattle.std.proofs.Common.{◌≡◌, ◌&&◌, false, ◌∙◌, sym}
 use Rattle.un_journal.specs.Step.{quiet}
 use Rattle.un_link.proofs.Controlling.{not_due_steps, not_quiet, not_forced}
 use Rattle.un_link.proofs.link.LinkOver.control.Goals as goal
@@ -12,4 +12,4 @@ returns g c =
       | else-force-via-else-force w ↦ not_forced _ _ w.if-force.false
     ] in
     rw (← c.self.view_is)
-    (not_due_steps _ c.in-Some.due c.args.force _ c.self.invariant (sym c.in-Some.ensures) (sym c.stops.ensures ∙ c.if-stops.false) (rw (← c.self.view_is) at (sym c.is_due.ensures ∙ c.if-is_due.false)) (rw (← c.self.view_is) at q) (rw (← c.self.view_is) at c.accepted.ensures))
+    (not_due_steps _ c.in-Some.due c.args.force _ c.self.invariant (sym c.in-Some.ensures) (sym c.is_ending.ensures ∙ c.if-is_ending.false) (rw (← c.self.view_is) at (sym c.is_due.ensures ∙ c.if-is_due.false)) (rw (← c.self.view_is) at q) (rw (← c.self.view_is) at c.accepted.ensures))
