@@ -1,7 +1,7 @@
 -- Where a datagram stands.
-use Rattle.std.proofs.Common.{◌≡◌, ℕ, zero, suc, ◌+◌, ◌-◌, ◌<◌, ◌≤◌, Bool, true, false, not, ◌&&◌, ◌||◌, ◌==◌, List, [], ◌∷◌, ◌++◌, length, take, drop, filter, slice_get, Option, Some, None, ◌⊎◌, inl, inr, refl, sym, ap, ◌∙◌, subst, arith, if◌then◌else◌}
+use Rattle.std.proofs.Common.{◌≡◌, ℕ, zero, suc, ◌+◌, ◌-◌, ◌<◌, ◌≤◌, Bool, true, false, ◌&&◌, ◌||◌, ◌==◌, List, [], ◌∷◌, ◌++◌, take, drop, filter, slice_get, Option, Some, None, refl, sym, ap, ◌∙◌, subst, arith, if◌then◌else◌}
 use Rattle.std.specs.Option.{option_map}
-use Rattle.std.proofs.lemmas.Bool.{false≢true, eq-eqb, ne_eqb, cases_eq}
+use Rattle.std.proofs.lemmas.Bool.{false≢true}
 use Rattle.std.proofs.lemmas.List.{take-append-drop}
 use Rattle.un_frame.specs.declared.params.Lane.{Lane}
 use Rattle.un_frame.specs.declared.params.Lane.TheVariants.{Outward, Inward}
@@ -11,8 +11,8 @@ use Rattle.un_journal.specs.declared.lines.Line.{Line}
 use Rattle.un_journal.specs.declared.lines.Line.TheVariants.{Gave}
 use Rattle.un_journal.specs.Script.{Script}
 use Rattle.un_journal.specs.History.{Entry, History, past, concerns, gave, taken}
-use Rattle.un_journal.specs.Lookup.{phase_of, is_asleep}
-use Rattle.un_journal.specs.Census.{census, lane_census, total, nowhere, one_if, NamesPlace}
+use Rattle.un_journal.specs.Lookup.{phase_of}
+use Rattle.un_journal.specs.Census.{census, total, nowhere, one_if, NamesPlace}
 use Rattle.un_journal.specs.Fits.{Legal}
 use Rattle.un_journal.proofs.Counts.{adds_up, names_place, is_nowhere}
 use Rattle.un_journal.proofs.Onto.{onto, past_onto}

@@ -1,4 +1,4 @@
-use Rattle.std.proofs.Common.{arith, ◌≡◌, ◌≤◌, ◌<◌, sym, ◌∙◌, ap, subst}
+use Rattle.std.proofs.Common.{arith, ◌≤◌, ◌<◌, sym, ◌∙◌, ap, subst}
 use Rattle.un_journal.specs.Census.{one_if}
 use Rattle.un_journal.specs.History.{gave, past, taken}
 use Rattle.un_link.specs.Link.{Holds, Link}
