@@ -6,3 +6,4 @@ pub mod Drain
 pub mod Orders
 pub mod Lawful
 pub mod Counts
+pub mod Requests

@@ -9,6 +9,7 @@ ghost use Rattle.un_journal.specs.Step.{Settle, away, is_still, quiet, work};
 ghost use Rattle.un_link.specs.Ends.{is_finished, offers_still};
 ghost use Rattle.un_link.specs.Lawful.{AtEveryMoment};
 ghost use Rattle.un_link.specs.Link.{Holds};
+ghost use Rattle.un_link.specs.Requests.{KeepsRequests};
 
 use crate::homes::Homes;
 use crate::link::LinkOver;
@@ -46,6 +47,14 @@ impl<A: TxEnd + Drop, B: RxEnd + Drop, C: TxEnd + Drop, D: RxEnd + Drop> LinkOve
     /// What holds of each link: its history is legal, and all that it keeps is what the history says.
     pub fn holds(&self)
         ensures { Holds self.now }
+    {
+        let _ = &self.journal;
+    }
+
+    /// Each request number of each pool stands in one place, once, and as many requests are in all places together as the pool has.
+    pub fn keeps_requests(&self)
+        ensures out { KeepsRequests self.now.out }
+        ensures inward { KeepsRequests self.now.inward }
     {
         let _ = &self.journal;
     }
