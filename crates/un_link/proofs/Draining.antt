@@ -10,15 +10,13 @@ use Rattle.un_journal.specs.Script.{Script}
 use Rattle.un_journal.specs.History.{History, past, made, flies, flying}
 use Rattle.un_journal.specs.Step.{step_of}
 use Rattle.un_journal.specs.Done.{NoneFlies}
-use Rattle.un_journal.specs.Drain.{run, round, drain, drain_in, same_length, line_bound}
-use Rattle.un_journal.specs.Fits.{Legal, IsDone}
-use Rattle.un_journal.specs.Sound.{IsSound}
+use Rattle.un_journal.specs.Drain.{run, round, drain, same_length, line_bound}
+use Rattle.un_journal.specs.Fits.{IsDone}
 use Rattle.un_journal.proofs.Status.{status_of, is_aloft}
 use Rattle.un_journal.proofs.Legal.{fresh}
 use Rattle.un_journal.proofs.Lists.{those_none}
 use Rattle.un_journal.proofs.Bound.{legal_bound}
-use Rattle.un_journal.proofs.Drained.{drain_done, run_extends, Extends}
-use Rattle.un_journal.proofs.Going.{legal_run}
+use Rattle.un_journal.proofs.Drained.{drain_done, run_extends}
 use Rattle.un_journal.proofs.LinkFacts.{drain_after_round, drain_after_control, drain_at_end}
 use Rattle.un_lane.specs.Way.{Way}
 use Rattle.un_lane.specs.Stands.{Stands, flight_serial}

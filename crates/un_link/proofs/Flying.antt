@@ -1,17 +1,17 @@
 -- Flights stay while other lines are written.
-use Rattle.std.proofs.Common.{◌≡◌, ℕ, ◌+◌, ◌<◌, ◌≤◌, Bool, true, false, List, [], ◌∷◌, ◌++◌, Option, Some, None, refl, sym, ap, ◌∙◌, subst, arith}
+use Rattle.std.proofs.Common.{◌≡◌, ℕ, ◌<◌, ◌≤◌, List, [], ◌∷◌, Option, Some, None, refl, ap, ◌∙◌, subst, arith}
 use Rattle.std.proofs.lemmas.Bool.{ne_eqb}
 use Rattle.std.specs.List.{AllByRecursion}
 use Rattle.un_frame.specs.declared.params.Lane.{Lane}
 use Rattle.un_endpoint.specs.declared.record.FlightRecord.{FlightRecord}
 use Rattle.un_journal.specs.declared.lines.Line.TheVariants.{Made}
-use Rattle.un_journal.specs.History.{Entry, History, past, made, made_bytes, those, flies, flying}
+use Rattle.un_journal.specs.History.{Entry, History, made, made_bytes, flies}
 use Rattle.un_journal.specs.Sound.{IsSound}
 use Rattle.un_journal.proofs.Onto.{onto}
 use Rattle.un_lane.specs.Way.{Way}
 use Rattle.un_lane.specs.Stands.{Stands, flight_serial}
 use Rattle.un_lane.proofs.Making.{those_below}
-use Rattle.un_link.specs.Link.{flight_in, lane_flights}
+use Rattle.un_link.specs.Link.{lane_flights}
 use Rattle.un_link.proofs.Frames.{sound_below}
 
 made_more : (e : Entry) (g : History) → made g ≤ made (e ∷ g)

@@ -1,17 +1,17 @@
 -- What a lane's work leaves of the frames that are built and of the feeds.
-use Rattle.std.proofs.Common.{◌≡◌, ℕ, ◌+◌, ◌-◌, ◌<◌, ◌≤◌, Bool, true, false, List, [], ◌∷◌, ◌++◌, length, drop, Option, Some, None, refl, sym, ap, ◌∙◌, subst, arith, append-nil}
+use Rattle.std.proofs.Common.{◌≡◌, ℕ, ◌+◌, ◌-◌, ◌<◌, ◌≤◌, Bool, true, false, List, [], ◌∷◌, ◌++◌, drop, Some, None, refl, sym, ap, ◌∙◌, subst, arith, append-nil}
 use Rattle.std.proofs.lemmas.Bool.{false≢true}
 use Rattle.std.proofs.lemmas.List.{drop-drop}
 use Rattle.un_frame.specs.declared.params.Lane.{Lane}
 use Rattle.un_journal.specs.Script.{Script, Frame}
-use Rattle.un_journal.specs.History.{Entry, History, past, concerns, taken, cover, consumed}
+use Rattle.un_journal.specs.History.{Entry, History, past, concerns, cover, consumed}
 use Rattle.un_journal.specs.declared.lines.Line.TheVariants.{Made, Dropped}
 use Rattle.un_journal.specs.Sound.{IsSound}
 use Rattle.un_journal.proofs.Onto.{onto}
 use Rattle.un_journal.specs.Lookup.{built_frames, datagrams}
 use Rattle.un_journal.specs.LaneSteps.{Outcome, Writes, Answers, lines_in}
 use Rattle.un_journal.specs.Step.{Work, work}
-use Rattle.un_journal.specs.Fits.{Act, Works, Fits, takes, refuses, waits_once, closes, begins_flight, cuts_queued, lands, fails, cuts_flight, comes_home, opens, gives, posts_one, marks, recalls_one, clears, settles}
+use Rattle.un_journal.specs.Fits.{Works, Fits, takes, refuses, waits_once, closes, begins_flight, cuts_queued, lands, fails, cuts_flight, comes_home, opens, gives, posts_one, marks, recalls_one, clears, settles}
 use Rattle.un_journal.proofs.Steps.{own_past, same_lane_same}
 use Rattle.un_journal.proofs.LaneFacts.{lane_of}
 use Rattle.un_journal.proofs.Complete.{outcome_fits}

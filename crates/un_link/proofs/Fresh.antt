@@ -1,27 +1,24 @@
 -- A new link.
-use Rattle.std.proofs.Common.{◌≡◌, ℕ, ◌+◌, ◌≤◌, Bool, true, false, List, [], Option, refl, sym, ap, ◌∙◌, arith}
+use Rattle.std.proofs.Common.{◌≡◌, ℕ, false, [], refl, sym, ap, ◌∙◌, arith}
 use Rattle.std.proofs.lemmas.Bool.{false≢true}
 use Rattle.un_frame.specs.declared.params.Lane.{Lane}
 use Rattle.un_frame.specs.declared.params.Lane.TheVariants.{Outward, Inward}
 use Rattle.un_frame.specs.declared.kinds.Phase.TheVariants.{Up}
-use Rattle.un_frame.specs.Params.{AreInRange, Agree}
-use Rattle.un_req.specs.Request.{Buffer}
-use Rattle.un_endpoint.specs.declared.record.FlightRecord.{FlightRecord}
+use Rattle.un_frame.specs.Params.{Agree}
 use Rattle.un_endpoint.specs.Ends.{Transmitter, Receiver}
 use Rattle.un_journal.specs.Script.{Script}
-use Rattle.un_journal.specs.History.{History}
 use Rattle.un_journal.specs.Log.{Log}
 use Rattle.un_journal.specs.Bytes.{byte_bound}
 use Rattle.un_journal.specs.Drain.{line_bound}
 use Rattle.un_journal.specs.Fits.{begins}
 use Rattle.un_lane.specs.Way.{Way}
 use Rattle.un_lane.specs.Stands.{Stands}
-use Rattle.un_lane.specs.Phases.{Agrees, AreApart, defers}
+use Rattle.un_lane.specs.Phases.{defers}
 use Rattle.un_lane.specs.Fresh.{AreFresh}
 use Rattle.un_script.specs.Ready.{IsReady}
 use Rattle.un_link.specs.declared.cursors.Cursors.{Cursors}
-use Rattle.un_link.specs.Keeps.{AreRead, Keeps}
-use Rattle.un_link.specs.Link.{Link, IsLogged, Holds}
+use Rattle.un_link.specs.Keeps.{Keeps}
+use Rattle.un_link.specs.Link.{Holds}
 use Rattle.un_link.proofs.Rooms.{few_lines}
 
 awake : (lane : Lane) → defers lane false ≡ false

@@ -1,8 +1,7 @@
 -- A link after one lane's work.
-use Rattle.std.proofs.Common.{◌≡◌, ℕ, ◌+◌, ◌<◌, ◌≤◌, ◌^◌, Bool, true, false, List, [], ◌∷◌, ◌++◌, length, reverse, Option, Some, None, refl, sym, ap, ◌∙◌, subst, arith, length-append}
+use Rattle.std.proofs.Common.{◌≡◌, ℕ, ◌+◌, ◌<◌, ◌≤◌, ◌^◌, true, false, ◌++◌, length, reverse, Some, refl, sym, ap, ◌∙◌, subst, arith, length-append}
 use Rattle.un_frame.specs.declared.params.Lane.{Lane}
 use Rattle.un_frame.specs.declared.params.Lane.TheVariants.{Outward, Inward}
-use Rattle.un_frame.specs.declared.kinds.Phase.{Phase}
 use Rattle.un_frame.specs.Lanes.{same_lane}
 use Rattle.un_journal.specs.declared.actions.Answer.{Answer}
 use Rattle.un_journal.specs.Script.{Script}
@@ -10,20 +9,20 @@ use Rattle.un_journal.specs.History.{History, past, consumed}
 use Rattle.un_journal.specs.Log.{Log}
 use Rattle.un_journal.specs.Bytes.{bytes_in, byte_bound}
 use Rattle.un_journal.specs.Lookup.{phase_of, controls_done}
-use Rattle.un_journal.specs.LaneSteps.{lines_in, answer_in}
+use Rattle.un_journal.specs.LaneSteps.{lines_in}
 use Rattle.un_journal.specs.Step.{Work, work}
 use Rattle.un_journal.specs.Drain.{line_bound}
 use Rattle.un_journal.specs.Fits.{Act, Works, Legal, act_outcome}
 use Rattle.un_journal.specs.Sound.{IsSound}
 use Rattle.un_journal.proofs.Going.{legal_act}
 use Rattle.un_journal.proofs.Onto.{onto}
-use Rattle.un_journal.proofs.LaneFacts.{lane_of, OwnLines, work_own, past_own, past_other, phase_kept, controls_kept}
+use Rattle.un_journal.proofs.LaneFacts.{lane_of, work_own, past_own, past_other, phase_kept, controls_kept}
 use Rattle.un_journal.proofs.LinkFacts.{act_has_room, act_has_byte_room, bytes_append}
 use Rattle.un_lane.specs.Way.{Way, HasRoom, Adds}
 use Rattle.un_link.specs.declared.cursors.Cursors.{Cursors}
 use Rattle.un_link.specs.declared.task.Task.{Task}
 use Rattle.un_link.specs.Keeps.{AreRead, Keeps, Does, work_of}
-use Rattle.un_link.specs.Link.{Link, IsLogged, Holds, Steps, flights_of, lane_flights}
+use Rattle.un_link.specs.Link.{Link, IsLogged, Holds, Steps, lane_flights}
 use Rattle.un_link.proofs.Frames.{is_calm, calm_same}
 use Rattle.un_link.proofs.Flying.{flight_kept}
 

@@ -1,5 +1,5 @@
 -- The laws of a legal history, at every moment.
-use Rattle.std.proofs.Common.{◌≡◌, ◌++◌, ◌∷◌, List, subst}
+use Rattle.std.proofs.Common.{subst}
 use Rattle.un_frame.specs.Params.{AreInRange, Agree}
 use Rattle.un_journal.specs.Script.{Script}
 use Rattle.un_journal.specs.History.{History, past}

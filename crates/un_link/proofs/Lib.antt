@@ -17,3 +17,4 @@ pub mod Controlling
 pub mod Settling
 pub mod Lawfully
 pub mod Refusing
+pub mod Standing

@@ -1,5 +1,5 @@
 -- A path after an offer.
-use Rattle.std.proofs.Common.{◌≡◌, ◌≢◌, ◌⊎◌, inl, inr, ℕ, zero, suc, ◌+◌, ◌-◌, ◌<◌, ◌≤◌, ◌^◌, Bool, true, false, not, ◌&&◌, ◌||◌, ◌==◌, nat_lt, List, [], ◌∷◌, ◌++◌, length, drop, slice_get, unwrap_or, Option, Some, None, refl, sym, ap, ◌∙◌, subst, arith, append-nil, if◌then◌else◌}
+use Rattle.std.proofs.Common.{◌≡◌, ◌≢◌, ℕ, zero, suc, ◌+◌, ◌-◌, ◌<◌, ◌≤◌, ◌^◌, Bool, true, false, ◌&&◌, ◌==◌, nat_lt, List, [], ◌∷◌, ◌++◌, length, drop, slice_get, unwrap_or, Option, Some, None, refl, sym, ap, ◌∙◌, subst, arith, append-nil, if◌then◌else◌}
 use Rattle.std.proofs.lemmas.List.{drop-append-le}
 use Rattle.std.proofs.lemmas.Bool.{ne_eqb}
 use Rattle.std.proofs.lemmas.Bool.Decides.{nat_tests}
@@ -13,13 +13,13 @@ use Rattle.un_frame.specs.declared.kinds.Verdict.TheVariants.{Take}
 use Rattle.un_frame.specs.Verdict.{verdict_of, is_kept_out}
 use Rattle.un_endpoint.specs.EndOutcomes.{with_frame}
 use Rattle.un_journal.specs.declared.lines.Line.{Line}
-use Rattle.un_journal.specs.declared.lines.Line.TheVariants.{Took, Made, Refused}
+use Rattle.un_journal.specs.declared.lines.Line.TheVariants.{Took, Refused}
 use Rattle.un_journal.specs.declared.actions.Answer.{Answer}
 use Rattle.un_journal.specs.Script.{Script, Frame, frames_of, Feeds, feed_list}
-use Rattle.un_journal.specs.History.{Entry, History, past, taken, cover, consumed, more_if}
+use Rattle.un_journal.specs.History.{History, past, taken, cover, consumed, more_if}
 use Rattle.un_journal.specs.Log.{Log}
 use Rattle.un_frame.specs.Cut.{closed_span}
-use Rattle.un_journal.specs.Lookup.{tx_home, offer_needs_home, is_asleep, works, phase_of, built_frames, datagrams, feed_head, span_after_took}
+use Rattle.un_journal.specs.Lookup.{tx_home, offer_needs_home, is_asleep, works, phase_of, built_frames, datagrams, feed_head}
 use Rattle.un_journal.specs.LaneSteps.{Outcome, Writes, Answers, lines_in, answer_in, bare, accept, made_lines}
 use Rattle.un_journal.specs.Step.{Work, work, judge, offer_head, is_still}
 use Rattle.un_journal.specs.Sound.{IsSound}
@@ -33,7 +33,7 @@ use Rattle.un_lane.specs.Stands.{Stands}
 use Rattle.un_lane.specs.Phases.{Builds, offered}
 use Rattle.un_link.specs.declared.cursors.Cursors.{Cursors}
 use Rattle.un_link.specs.Keeps.{AreRead, Keeps, Does, cursor_at, advanced}
-use Rattle.un_link.proofs.Frames.{built_after, covers_onto}
+use Rattle.un_link.proofs.Frames.{built_after}
 use Rattle.un_link.proofs.Working.{work_covers}
 
 -- FEEDS

@@ -1,19 +1,18 @@
 -- When a link is quiet, and when it is finished.
-use Rattle.std.proofs.Common.{◌≡◌, ℕ, ◌<◌, Bool, true, false, not, ◌&&◌, ◌||◌, ◌==◌, ◌-◌, [], ◌∷◌, List, length, reverse, refl, sym, ap, ◌∙◌, subst, arith, if◌then◌else◌}
+use Rattle.std.proofs.Common.{◌≡◌, ℕ, ◌<◌, Bool, true, false, not, ◌&&◌, ◌||◌, ◌==◌, ◌-◌, [], ◌∷◌, List, length, reverse, refl, sym, ap, ◌∙◌, arith, if◌then◌else◌}
 use Rattle.std.proofs.lemmas.Bool.{false≢true, ne_eqb}
-use Rattle.std.specs.List.{list_all}
 use Rattle.std.proofs.lemmas.Bool.Decides.{nat_tests}
 use Rattle.un_frame.specs.declared.params.Lane.{Lane}
 use Rattle.un_frame.specs.declared.params.Lane.TheVariants.{Outward, Inward}
 use Rattle.un_frame.specs.declared.kinds.Phase.{Phase}
-use Rattle.un_journal.specs.declared.lines.Line.{Line}
 use Rattle.un_journal.specs.declared.actions.Answer.{Answer}
 use Rattle.un_journal.specs.Script.{Script}
-use Rattle.un_journal.specs.History.{History, past, flying, is_empty}
+use Rattle.un_journal.specs.History.{History, past}
 use Rattle.un_journal.specs.Lookup.{phase_of, is_stopping, is_leaving, is_asleep, controls_done, built_frames}
-use Rattle.un_journal.specs.LaneSteps.{Outcome, Writes, Answers}
-use Rattle.un_journal.specs.Step.{Work, work, is_still, away, all_home, settle, settled_line, other_works, quiet}
+use Rattle.un_journal.specs.LaneSteps.{Writes, Answers}
+use Rattle.un_journal.specs.Step.{Work, work, is_still, away, all_home, settled_line, quiet}
 use Rattle.un_journal.specs.Fits.{Legal, IsDone}
+use Rattle.un_journal.proofs.Homes.{away_some, away_none}
 use Rattle.un_journal.proofs.Closed.{quiet_done}
 use Rattle.un_journal.proofs.LinkFacts.{lane_still, quiet_parts}
 use Rattle.un_lane.specs.Way.{Way}
@@ -24,14 +23,22 @@ use Rattle.un_link.specs.Keeps.{Keeps}
 use Rattle.un_link.specs.Link.{Link, Holds}
 use Rattle.un_link.specs.Ends.{is_finished, offers_still}
 
--- whether a stop would settle
-settle_still : (script : Script) (h : History) → is_still (work script h Work.Settle) ≡ not ((is_stopping (phase_of script h) || is_leaving (phase_of script h)) && all_home script h)
-settle_still script h = go (is_stopping (phase_of script h) || is_leaving (phase_of script h)) (all_home script h)
+-- all requests are home exactly where none is away
+pub away_is : (script : Script) (h : History) → Legal script h → (away script h == 0) ≡ all_home script h
+away_is script h legal = go (all_home script h) refl
   where
-    go : (a b : Bool) → is_still (if not a then Answers Answer.Nothing else (if b then Writes ((settled_line script h, []) ∷ []) else Answers (Answer.Away (away script h)))) ≡ not (a && b)
-    go false b = refl
-    go true true = refl
-    go true false = refl
+    go : (b : Bool) → all_home script h ≡ b → (away script h == 0) ≡ b
+    go true e = ap (λ n. n == 0) (away_none script h e)
+    go false e = let low : 0 < away script h = away_some script h legal e in ne_eqb (away script h) 0 (λ z. absurd (omega (arith, z)))
+
+-- whether a stop would settle
+pub settle_still : (script : Script) (h : History) → Legal script h → is_still (work script h Work.Settle) ≡ not ((is_stopping (phase_of script h) || is_leaving (phase_of script h)) && (away script h == 0))
+settle_still script h legal = go (is_stopping (phase_of script h) || is_leaving (phase_of script h)) (all_home script h) (sym (away_is script h legal))
+  where
+    go : (a b : Bool) → b ≡ (away script h == 0) → is_still (if not a then Answers Answer.Nothing else (if b then Writes ((settled_line script h, []) ∷ []) else Answers (Answer.Away (away script h)))) ≡ not (a && (away script h == 0))
+    go false b e = refl
+    go true true e = ap not e
+    go true false e = ap not e
 
 -- a lane is still where its path is
 pub path_still : (script : Script) (h : History) (lane : Lane) (way : Way) → way.lane ≡ lane → way.tx.params ≡ script.params
@@ -60,10 +67,10 @@ finished_done script h legal e =
 
 -- OF A LINK
 
-pub would_settle_is : (link : Link) (home : Bool) → Holds link → (is_stopping link.phase || is_leaving link.phase) ≡ true → home ≡ all_home link.script link.log.history → is_still (work link.script link.log.history Work.Settle) ≡ not home
-would_settle_is link home k e a =
-    settle_still link.script link.log.history
-    ∙ (ap (λ b. not (b && all_home link.script link.log.history)) (ap (λ p. is_stopping p || is_leaving p) (sym k.phase_is) ∙ e) ∙ ap not (sym a))
+pub would_settle_is : (link : Link) (n : ℕ) → Holds link → (is_stopping link.phase || is_leaving link.phase) ≡ true → n ≡ away link.script link.log.history → is_still (work link.script link.log.history Work.Settle) ≡ not (n == 0)
+would_settle_is link n k e a =
+    settle_still link.script link.log.history k.logged.legal
+    ∙ (ap (λ b. not (b && (away link.script link.log.history == 0))) (ap (λ p. is_stopping p || is_leaving p) (sym k.phase_is) ∙ e) ∙ ap (λ m. not (m == 0)) (sym a))
 
 -- what a path tells of a lane
 abbrev pub Tells : Bool → Way → Phase → Type 0

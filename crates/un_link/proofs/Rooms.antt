@@ -1,13 +1,12 @@
 -- The room of a script's lines and their bytes.
-use Rattle.std.proofs.Common.{rules, inl, inr, ◌≡◌, ℕ, zero, suc, ◌+◌, ◌*◌, ◌<◌, ◌≤◌, ◌^◌, List, [], ◌∷◌, ◌++◌, length, take, slice_get, Option, Some, None, refl, sym, ap, ◌∙◌, subst, arith}
+use Rattle.std.proofs.Common.{◌≡◌, ℕ, zero, suc, ◌+◌, ◌*◌, ◌<◌, ◌≤◌, ◌^◌, List, [], ◌∷◌, length, take, slice_get, Some, None, ap, ◌∙◌, arith}
 use Rattle.std.specs.List.{sum_by}
 use Rattle.std.proofs.lemmas.List.Sums.{sum_by-append}
 use Rattle.std.proofs.lemmas.List.{take_all}
 use Rattle.std.proofs.lemmas.Nat.{mul-le}
-use Rattle.std.proofs.lemmas.Option.{slice_get_within, slice_get_cases}
 use Rattle.un_frame.specs.declared.params.Lane.{Lane}
 use Rattle.un_frame.specs.declared.params.Lane.TheVariants.{Outward, Inward}
-use Rattle.un_journal.specs.Script.{Script, Frame, Feeds, frames_of, feed_list, feeds_of}
+use Rattle.un_journal.specs.Script.{Script, Frame, Feeds, frames_of, feed_list}
 use Rattle.un_journal.specs.Bytes.{frame_room}
 use Rattle.un_journal.specs.Drain.{line_bound, frame_count as frames_in}
 use Rattle.un_journal.proofs.NoLoss.{take_one}

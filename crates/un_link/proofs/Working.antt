@@ -1,5 +1,5 @@
 -- A path after its lane's work.
-use Rattle.std.proofs.Common.{◌≡◌, ℕ, ◌+◌, ◌-◌, ◌<◌, ◌≤◌, Bool, true, false, List, [], ◌∷◌, ◌++◌, length, drop, Option, Some, None, refl, sym, ap, ◌∙◌, subst, arith, append-nil}
+use Rattle.std.proofs.Common.{◌≡◌, ◌-◌, ◌≤◌, true, ◌++◌, drop, Some, refl, sym, ap, ◌∙◌, subst}
 use Rattle.un_frame.specs.declared.params.Lane.{Lane}
 use Rattle.un_frame.specs.declared.kinds.Phase.{Phase}
 use Rattle.un_journal.specs.declared.actions.Answer.{Answer}
@@ -21,7 +21,6 @@ use Rattle.un_journal.proofs.Onto.{onto}
 use Rattle.un_journal.specs.Lookup.{datagrams}
 use Rattle.un_journal.specs.History.{cover}
 use Rattle.un_journal.specs.Sound.{IsSound}
-use Rattle.un_journal.specs.declared.lines.Line.TheVariants.{Took}
 use Rattle.un_frame.specs.declared.params.Lane.{Lane}
 
 -- after lines that leave what is built a path keeps what it kept

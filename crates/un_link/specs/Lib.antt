@@ -5,3 +5,5 @@ pub mod Ends
 pub mod Drain
 pub mod Orders
 pub mod Lawful
+pub mod Counts
+pub mod Requests

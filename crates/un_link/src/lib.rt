@@ -10,6 +10,8 @@ mod offer;
 mod orders;
 mod room;
 mod task;
+#[cfg(test)]
+mod tests;
 mod transfer;
 mod work;
 

@@ -7,6 +7,7 @@ ghost use Rattle.un_frame.specs.Params.{Agree};
 ghost use Rattle.un_lane.specs.Fresh.{AreFresh};
 ghost use Rattle.un_link.specs.Link.{flights_of};
 
+mod census;
 mod control;
 mod drain;
 mod flight;

@@ -133,7 +133,7 @@ impl<A: TxEnd + Drop, B: RxEnd + Drop, C: TxEnd + Drop, D: RxEnd + Drop> LinkOve
     }
 
     /// How many datagrams of a lane were accepted.
-    fn accepted(&self, lane: Lane) -> u64
+    pub(crate) fn accepted(&self, lane: Lane) -> u64
         ensures { result ≡ taken (past lane self.now.log.history) }
     {
         match lane {

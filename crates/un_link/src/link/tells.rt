@@ -1,18 +1,18 @@
 //! What a link tells. No reading takes memory or changes anything.
 
-ghost use Rattle.std.specs.Prelude.{◌≡◌, ◌&&◌, true, not};
+ghost use Rattle.std.specs.Prelude.{◌≡◌, ◌&&◌, ◌||◌, true, not};
 ghost use Rattle.un_frame.specs.declared.params.Lane.TheVariants.{Outward, Inward};
 ghost use Rattle.un_journal.specs.Fits.{IsDone, Legal};
 ghost use Rattle.un_journal.specs.History.{past};
-ghost use Rattle.un_journal.specs.Lookup.{phase_of, rx_home, tx_home};
-ghost use Rattle.un_journal.specs.Step.{Settle, is_still, quiet, work};
+ghost use Rattle.un_journal.specs.Lookup.{is_leaving, is_stopping, phase_of, rx_home, tx_home};
+ghost use Rattle.un_journal.specs.Step.{Settle, away, is_still, quiet, work};
 ghost use Rattle.un_link.specs.Ends.{is_finished, offers_still};
 ghost use Rattle.un_link.specs.Lawful.{AtEveryMoment};
 ghost use Rattle.un_link.specs.Link.{Holds};
+ghost use Rattle.un_link.specs.Requests.{KeepsRequests};
 
 use crate::homes::Homes;
 use crate::link::LinkOver;
-use crate::link::control::stops;
 use crate::offer::offers_nothing;
 use un_endpoint::{RxEnd, TxEnd};
 use un_frame::{Lane, Phase};
@@ -47,6 +47,14 @@ impl<A: TxEnd + Drop, B: RxEnd + Drop, C: TxEnd + Drop, D: RxEnd + Drop> LinkOve
     /// What holds of each link: its history is legal, and all that it keeps is what the history says.
     pub fn holds(&self)
         ensures { Holds self.now }
+    {
+        let _ = &self.journal;
+    }
+
+    /// Each request number of each pool stands in one place, once, and as many requests are in all places together as the pool has.
+    pub fn keeps_requests(&self)
+        ensures out { KeepsRequests self.now.out }
+        ensures inward { KeepsRequests self.now.inward }
     {
         let _ = &self.journal;
     }
@@ -112,8 +120,24 @@ impl<A: TxEnd + Drop, B: RxEnd + Drop, C: TxEnd + Drop, D: RxEnd + Drop> LinkOve
     fn would_settle(&self) -> bool
         ensures { is_still (work self.now.script self.now.log.history Settle) ≡ not result }
     {
-        let home = self.has_all_home();
-        stops(self.phase) && home
+        let away = self.away();
+        is_ending(self.phase) && away == 0
+    }
+
+    /// How many requests aren't home.
+    pub(crate) fn away(&self) -> u64
+        ensures { result ≡ away self.now.script self.now.log.history }
+    {
+        let params = self.script.params();
+        let homes = self.homes();
+        u64::from(params.tx_out)
+            + u64::from(params.rx_out)
+            + u64::from(params.tx_in)
+            + u64::from(params.rx_in)
+            - (u64::from(homes.tx_out)
+                + u64::from(homes.rx_out)
+                + u64::from(homes.tx_in)
+                + u64::from(homes.rx_in))
     }
 }
 
@@ -122,4 +146,11 @@ fn are_all(first: bool, second: bool, third: bool, fourth: bool) -> bool
     ensures { result ≡ ((first && second) && (third && fourth)) }
 {
     first && second && third && fourth
+}
+
+/// Whether a stop or an unplug goes on in this phase.
+pub(crate) fn is_ending(phase: Phase) -> bool
+    ensures { result ≡ (is_stopping phase || is_leaving phase) }
+{
+    matches!(phase, Phase::Stopping | Phase::Leaving)
 }

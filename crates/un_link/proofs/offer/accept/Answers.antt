@@ -1,7 +1,6 @@
-use Rattle.std.proofs.Common.{subst, ap, refl, ◌∙◌, sym}
+use Rattle.std.proofs.Common.{subst}
 use Rattle.un_journal.specs.LaneSteps.{lines_in}
 use Rattle.un_lane.specs.Way.{HasRoom}
-use Rattle.un_link.specs.Keeps.{AreRead, Does}
 use Rattle.un_link.proofs.Offers.{accept_is, cursor_small, accept_does, accept_advances, accept_stays}
 use Rattle.un_link.proofs.offer.accept.Goals as goal
 

@@ -1,7 +1,5 @@
-use Rattle.std.proofs.Common.{rules, refl, sym, ◌∙◌, ap, subst, slice_get, ◌≡◌, ◌++◌, ◌∷◌, []}
-use Rattle.un_journal.specs.LaneSteps.{bare}
+use Rattle.std.proofs.Common.{rules, sym, ◌∙◌, ap, slice_get}
 use Rattle.un_journal.specs.Script.{frames_of}
-use Rattle.un_frame.specs.declared.kinds.Verdict.TheVariants.{Take}
 use Rattle.un_journal.specs.declared.lines.Line.TheVariants.{Refused}
 use Rattle.un_link.proofs.Offers.{cursor_small, head_is, refuse_does, refuse_reads, pushed}
 use Rattle.un_link.proofs.Refusing.{spent_does}

@@ -1,4 +1,4 @@
-use Rattle.std.proofs.Common.{rules, arith, refl, sym, ◌∙◌, ap, subst, slice_get, length, ◌≤◌}
+use Rattle.std.proofs.Common.{rules, arith, refl, sym, ◌∙◌, ap, slice_get, length, ◌≤◌}
 use Rattle.un_journal.specs.Script.{frames_of}
 use Rattle.un_link.proofs.Offers.{head_is, taken_length, take_still}
 use Rattle.un_link.proofs.offer.stays.Goals as goal

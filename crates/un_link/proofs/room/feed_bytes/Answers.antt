@@ -1,4 +1,4 @@
-use Rattle.std.proofs.Common.{rules, arith, ◌≡◌, ◌+◌, ◌*◌, ◌<◌, ◌≤◌, length}
+use Rattle.std.proofs.Common.{rules, arith, ◌≤◌, length}
 use Rattle.std.proofs.lemmas.Option.{slice_get_within}
 use Rattle.un_journal.specs.Script.{frames_of}
 use Rattle.un_link.proofs.Rooms.{feed_more, feed_all, none_past, feed_few}

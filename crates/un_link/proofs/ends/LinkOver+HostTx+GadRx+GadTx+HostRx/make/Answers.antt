@@ -1,6 +1,5 @@
 use Rattle.std.proofs.Common.{sym, subst, ap, ◌∙◌}
 use Rattle.un_frame.specs.Params.{AreInRange, Agree}
-use Rattle.un_frame.specs.declared.params.Params.{Params}
 use Rattle.un_endpoint.specs.Ends.{Transmitter}
 use Rattle.un_link.proofs.Agreeing.{agreed_is, fresh_out, fresh_in}
 use Rattle.un_link.proofs.ends.LinkOver+HostTx+GadRx+GadTx+HostRx.make.Goals as goal

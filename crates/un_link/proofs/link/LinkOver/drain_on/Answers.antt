@@ -1,4 +1,4 @@
-use Rattle.std.proofs.Common.{arith, ◌≡◌, ◌<◌, ◌≤◌, length, nat_lt, subst, sym, ap, ◌∙◌}
+use Rattle.std.proofs.Common.{arith, ◌≡◌, length, nat_lt, subst, sym, ap, ◌∙◌}
 use Rattle.un_link.specs.Link.{Holds, Link}
 use Rattle.un_link.proofs.Draining.{round_drains, control_drains}
 use Rattle.un_link.proofs.link.LinkOver.drain_on.Goals as goal

@@ -1,4 +1,4 @@
-use Rattle.std.proofs.Common.{subst, sym, ap, ◌∙◌}
+use Rattle.std.proofs.Common.{subst, sym, ◌∙◌}
 use Rattle.un_journal.specs.Fits.{IsDone}
 use Rattle.un_link.specs.Link.{Link}
 use Rattle.un_link.proofs.Resting.{finished_is}

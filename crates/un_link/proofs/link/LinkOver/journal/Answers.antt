@@ -1,5 +1,4 @@
 use Rattle.std.proofs.Common.{subst}
-use Rattle.un_journal.specs.Fits.{Legal}
 use Rattle.un_link.specs.Lawful.{AtEveryMoment}
 use Rattle.un_link.specs.Link.{Link}
 use Rattle.un_link.proofs.Lawfully.{lawful_moments}

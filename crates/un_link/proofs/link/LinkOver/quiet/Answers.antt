@@ -1,4 +1,4 @@
-use Rattle.std.proofs.Common.{sym, ap, ◌∙◌, not}
+use Rattle.std.proofs.Common.{ap, ◌∙◌}
 use Rattle.un_journal.specs.Step.{quiet}
 use Rattle.un_link.specs.Link.{Link}
 use Rattle.un_link.proofs.Resting.{quiet_tells}

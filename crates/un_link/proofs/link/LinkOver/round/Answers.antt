@@ -1,4 +1,4 @@
-use Rattle.std.proofs.Common.{arith, ◌≡◌, ◌++◌, take, subst, sym, ap, ◌∙◌}
+use Rattle.std.proofs.Common.{arith, ◌≡◌, ◌++◌, take, subst, ap, ◌∙◌}
 use Rattle.un_journal.specs.Step.{step_of}
 use Rattle.un_journal.specs.Drain.{round, run}
 use Rattle.un_link.proofs.Draining.{run_more}

@@ -1,4 +1,3 @@
-use Rattle.std.proofs.Common.{refl}
 use Rattle.std.proofs.lemmas.Option.{slice_get-get_or}
 use Rattle.un_journal.specs.Drain.{round}
 use Rattle.un_link.proofs.link.drain.action_at.Goals as goal
