@@ -1,6 +1,7 @@
 //! The gadget's transmitting end.
 
-ghost use Rattle.std.specs.Prelude.{◌≡◌, IfOk};
+ghost use Rattle.std.specs.Prelude.{◌≡◌, ◌≤◌, ℕ, IfOk};
+ghost use Rattle.un_endpoint.specs.Ends.{tx_copies};
 ghost use Rattle.un_frame.specs.Params.{Agree, AreInRange};
 ghost use Rattle.un_frame.specs.declared.params.Lane.TheVariants.{Inward};
 ghost use Rattle.un_ends.specs.Sound.{fresh_tx};
@@ -46,6 +47,14 @@ impl GadTx {
         let wrap = GadWrap::make(alloc, codec, params.datagrams)?;
         let done = Requests::make(alloc, params.tx_in)?;
         Ok(GadTx { wrap, pool, done })
+    }
+
+    /// Each number of its pool stands in one of its places at most, once, and no other number does: at home, or among the done requests.
+    pub fn keeps_each_once(&self)
+        ensures once { (number : ℕ) → tx_copies self.now number ≤ 1 }
+        ensures known { (number : ℕ) → self.now.size ≤ number → tx_copies self.now number ≡ 0 }
+    {
+        let _done = &self.done;
     }
 }
 

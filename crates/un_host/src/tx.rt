@@ -1,6 +1,7 @@
 //! The host's transmitting end.
 
-ghost use Rattle.std.specs.Prelude.{◌≡◌, IfOk};
+ghost use Rattle.std.specs.Prelude.{◌≡◌, ◌≤◌, ℕ, IfOk};
+ghost use Rattle.un_endpoint.specs.Ends.{tx_copies};
 ghost use Rattle.un_frame.specs.Params.{Agree, AreInRange};
 ghost use Rattle.un_frame.specs.declared.params.Lane.TheVariants.{Outward};
 ghost use Rattle.un_ends.specs.Sound.{fresh_tx};
@@ -53,6 +54,14 @@ impl HostTx {
             deferred,
             done,
         })
+    }
+
+    /// Each number of its pool stands in one of its places at most, once, and no other number does: at home, claimed by the builder, among the deferred requests, or among the done ones.
+    pub fn keeps_each_once(&self)
+        ensures once { (number : ℕ) → tx_copies self.now number ≤ 1 }
+        ensures known { (number : ℕ) → self.now.size ≤ number → tx_copies self.now number ≡ 0 }
+    {
+        let _done = &self.done;
     }
 }
 
