@@ -3,6 +3,8 @@
 
 mod rx;
 #[cfg(test)]
+mod rx_tests;
+#[cfg(test)]
 mod tests;
 mod tx;
 
