@@ -14,7 +14,7 @@ use Rattle.un_lane.specs.Way.{Way}
 use Rattle.un_lane.specs.Phases.{Agrees, defers}
 use Rattle.un_lane.specs.Controls.{unmarked_flight, unmarked_in}
 use Rattle.un_lane.specs.Stands.{Stands, AreMarked, FlightIs, serial_of, flight_serial}
-use Rattle.un_lane.proofs.Finishing.{ended_over}
+use Rattle.un_journal.proofs.Homes.{ended_is}
 use Rattle.un_lane.proofs.Serials.{those_same, and_false}
 
 -- DEFERRED AND QUEUED
@@ -121,7 +121,7 @@ flight_below : (g : History) → IsSound g → (i j : ℕ) → flies g i ≡ tru
 flight_below g sound i j up w =
     let at : i ≡ ends g = flight_is g sound (in_order g sound) i up in
     elim (cases_lt j (ends g)) [
-      | inl low ↦ absurd (over (flies g j) (ended_over g sound j ∙ (in_order g sound j).below low))
+      | inl low ↦ absurd (over (flies g j) (ended_is g sound j ∙ (in_order g sound j).below low))
       | inr high ↦ elim (cases_lt i j) [ inl h ↦ h | inr h ↦ absurd (flying_too (let s : j ≡ i = omega arith in s)) ]
     ]
   where

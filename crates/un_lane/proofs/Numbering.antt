@@ -1,6 +1,6 @@
 -- How often the number of a datagram stands in each place, by what the path has.
-use Rattle.std.proofs.Common.{◌≡◌, ℕ, zero, suc, ◌+◌, ◌-◌, ◌<◌, ◌≤◌, Bool, true, false, not, ◌&&◌, ◌==◌, nat_lt, nat_le, List, [], ◌∷◌, ◌++◌, length, map, Option, Some, None, is_some, ◌⊎◌, inl, inr, refl, sym, ap, ◌∙◌, arith}
-use Rattle.std.proofs.lemmas.Bool.{false≢true, cases_Bool, cases_eq, eq-eqb, ne_eqb}
+use Rattle.std.proofs.Common.{◌≡◌, ℕ, zero, suc, ◌+◌, ◌-◌, ◌<◌, Bool, true, false, not, ◌&&◌, nat_lt, List, [], ◌∷◌, length, map, Option, Some, None, is_some, ◌⊎◌, inl, inr, refl, sym, ap, ◌∙◌, arith}
+use Rattle.std.proofs.lemmas.Bool.{false≢true}
 use Rattle.std.proofs.lemmas.Bool.Decides.{nat_tests}
 use Rattle.std.specs.List.{AllByRecursion}
 use Rattle.un_frame.specs.declared.params.Lane.{Lane}
@@ -14,8 +14,9 @@ use Rattle.un_endpoint.specs.Bus.{is_between, one_if, queued_count, flight_count
 use Rattle.un_endpoint.specs.Ends.{Builder, Opened as Current, is_block, is_built, built_count, remainder_count, deferred_count, arrived_count, current_count}
 use Rattle.un_journal.specs.declared.census.Census.{Census}
 use Rattle.un_journal.specs.Census.{occurrences, numbers_of, built_numbers, in_block, outside_block, left_in, lane_census}
-use Rattle.un_journal.specs.History.{History, taken, cover, took_last, span, made_bytes, left_of, span_numbers, row_from, more_if}
+use Rattle.un_journal.specs.History.{History, taken, cover, took_last, span, made_bytes, left_of, span_numbers, row_from}
 use Rattle.un_journal.specs.Lookup.{block_open, is_asleep}
+use Rattle.un_journal.proofs.Counts.{occurrences_append, occurrences_numbers, occurrences_row}
 use Rattle.un_lane.specs.Way.{Way}
 use Rattle.un_lane.specs.Phases.{Agrees}
 use Rattle.un_lane.specs.Stands.{Stands, IsText, IsLeft, CurrentIs, FlightIs, claims_when, opened_serial, serial_of, flight_serial}
@@ -23,46 +24,11 @@ use Rattle.un_lane.proofs.Lookups.{queued_is, deferred_is}
 
 -- NUMBERS IN A ROW
 
-between_yes : (a b n : ℕ) → a ≤ n → n < b → is_between a b n ≡ true
-between_yes a b n l h = grind (arith, nat_tests)
-
-between_low : (a b n : ℕ) → n < a → is_between a b n ≡ false
-between_low a b n l = grind (arith, nat_tests)
-
 between_none : (a n : ℕ) → is_between a (a + 0) n ≡ false
 between_none a n = grind (arith, nat_tests)
 
-between_more : (a b n : ℕ) → (a ≡ n → ⊥) → is_between (a + 1) b n ≡ is_between a b n
-between_more a b n ne = ap (λ x. x && nat_lt n b) (le_more a n ne)
-  where
-    le_more : (i j : ℕ) → (i ≡ j → ⊥) → nat_le (i + 1) j ≡ nat_le i j
-    le_more i j d = elim (cases_Bool (nat_le i j)) [
-      | inl t ↦ grind (arith, nat_tests, t, d)
-      | inr f ↦ grind (arith, nat_tests, f)
-    ]
-
-row_count : (n a m : ℕ) → occurrences n (row_from a m) ≡ one_if (is_between a (a + m) n)
-row_count n a zero = ap one_if (sym (between_none a n))
-row_count n a (suc m) = elim (cases_eq a n) [
-  | inl same ↦
-      ap (λ b. more_if b (occurrences n (row_from (a + 1) m))) (eq-eqb a n same)
-      ∙ (ap (λ k. k + 1) (row_count n (a + 1) m ∙ ap one_if (between_low (a + 1) (a + 1 + m) n (omega (arith, same))))
-      ∙ ap one_if (sym (between_yes a (a + suc m) n (omega (arith, same)) (omega (arith, same)))))
-  | inr ne ↦
-      ap (λ b. more_if b (occurrences n (row_from (a + 1) m))) (ne_eqb a n ne)
-      ∙ (row_count n (a + 1) m ∙ (ap (λ e. one_if (is_between (a + 1) e n)) (let s : a + 1 + m ≡ a + suc m = omega arith in s) ∙ ap one_if (between_more a (a + suc m) n ne)))
-]
-
 span_count : (n a b : ℕ) → a < b → occurrences n (row_from a (b - a)) ≡ one_if (is_between a b n)
-span_count n a b h = row_count n a (b - a) ∙ ap (λ e. one_if (is_between a e n)) (let s : a + (b - a) ≡ b = omega arith in s)
-
-occurrences_append : (n : ℕ) (xs ys : List ℕ) → occurrences n (xs ++ ys) ≡ occurrences n xs + occurrences n ys
-occurrences_append n [] ys = let z : occurrences n ys ≡ 0 + occurrences n ys = omega arith in z
-occurrences_append n (x ∷ xs) ys = go (x == n) (occurrences_append n xs ys)
-  where
-    go : (b : Bool) → occurrences n (xs ++ ys) ≡ occurrences n xs + occurrences n ys → more_if b (occurrences n (xs ++ ys)) ≡ more_if b (occurrences n xs) + occurrences n ys
-    go true e = omega (arith, e)
-    go false e = e
+span_count n a b h = occurrences_numbers n a b (omega arith)
 
 -- TRANSFERS
 
@@ -101,7 +67,7 @@ built_some b n e = elim (cases_lt_zero (length b.frames)) [
 built_is : (way : Way) (g : History) (n : ℕ) → Stands way g → occurrences n (built_numbers g) ≡ one_if (is_built way.tx.builder n)
 built_is way g n w =
     ap (λ m. occurrences n (row_from (cover g) m)) (let s : taken g - cover g ≡ length way.tx.builder.frames = let c : cover g + length way.tx.builder.frames ≡ taken g = w.building.covered in omega arith in s)
-    ∙ (row_count n (cover g) (length way.tx.builder.frames) ∙ go (length way.tx.builder.frames) refl)
+    ∙ (occurrences_row n (cover g) (length way.tx.builder.frames) ∙ go (length way.tx.builder.frames) refl)
   where
     go : (m : ℕ) → length way.tx.builder.frames ≡ m → one_if (is_between (cover g) (cover g + length way.tx.builder.frames) n) ≡ one_if (is_built way.tx.builder n)
     go zero e =

@@ -21,7 +21,7 @@ use Rattle.un_journal.proofs.Order.{ends, is_over, in_order}
 use Rattle.un_lane.specs.Way.{Way}
 use Rattle.un_lane.specs.Stands.{Stands, ArePlaced, IsText, finished, serial_of, opened_serial, flight_tx, flight_rx}
 use Rattle.un_lane.proofs.Counting.{copies_last, length_more}
-use Rattle.un_lane.proofs.Finishing.{ended_over, ended_below}
+use Rattle.un_journal.proofs.Homes.{ended_is, ended_below}
 use Rattle.un_lane.proofs.Serials.{apart, same_number}
 
 -- DONE
@@ -29,7 +29,7 @@ use Rattle.un_lane.proofs.Serials.{apart, same_number}
 ended_made : (g : History) → IsSound g → (j : ℕ) → ended g j ≡ true → j < made g
 ended_made g sound j e = elim (cases_lt j (made g)) [
   | inl h ↦ h
-  | inr h ↦ absurd (false≢true (sym (ended_over g sound j ∙ ap is_over (fresh g sound j h)) ∙ e))
+  | inr h ↦ absurd (false≢true (sym (ended_is g sound j ∙ ap is_over (fresh g sound j h)) ∙ e))
 ]
 
 le_yes : (a b : ℕ) → a ≤ b → nat_le a b ≡ true
@@ -58,7 +58,7 @@ first_done g k ks sound e =
     let both = and_both (ended g k) (nat_le (returned g) k) f.passes in
     let low : returned g ≤ k = le_means (returned g) k both.1 in
     let high : k < ends g = ended_below g sound k both.0 in
-    let over : ended g (returned g) ≡ true = ended_over g sound (returned g) ∙ (in_order g sound (returned g)).below (omega arith) in (
+    let over : ended g (returned g) ≡ true = ended_is g sound (returned g) ∙ (in_order g sound (returned g)).below (omega arith) in (
       elim (cases_lt (returned g) k) [
         | inl h ↦ absurd (false≢true (sym (f.is_least (returned g) h) ∙ rw (over, le_yes (returned g) (returned g) (omega arith)) refl))
         | inr h ↦ omega arith
@@ -98,7 +98,12 @@ home_placed lane t r bus x home' done' p q h = record {
       let e : copies n (map number_of t.done) ≡ one_if (eqb n x.number) + copies n (map number_of done') = ap (λ xs. copies n (map number_of xs)) q in
       let d : copies n home' ≡ copies n t.home + one_if (eqb n x.number) = ap (copies n) h ∙ copies_last n t.home x.number in
       let w : copies n t.home + copies n (option_to_list t.builder.claim) + copies n (map number_of t.deferred) + copies n (map number_of t.done) + (copies n (map number_of bus.queue) + copies n (flight_tx bus.flight)) ≤ 1 = p.tx_once n in omega arith;
+  tx_some = λ n low.
+      let e : copies n (map number_of t.done) ≡ one_if (eqb n x.number) + copies n (map number_of done') = ap (λ xs. copies n (map number_of xs)) q in
+      let d : copies n home' ≡ copies n t.home + one_if (eqb n x.number) = ap (copies n) h ∙ copies_last n t.home x.number in
+      let w : 1 ≤ copies n t.home + copies n (option_to_list t.builder.claim) + copies n (map number_of t.deferred) + copies n (map number_of t.done) + (copies n (map number_of bus.queue) + copies n (flight_tx bus.flight)) = p.tx_some n low in omega arith;
   rx_once = p.rx_once;
+  rx_some = p.rx_some;
   tx_all =
       let e : length t.done ≡ suc (length done') = ap length q in
       let d : length home' ≡ length t.home + 1 = ap length h ∙ length_more t.home x.number in
@@ -181,10 +186,15 @@ open_placed lane t r bus x arrived' p none q = record {
   largest_is = p.largest_is;
   wide = p.wide;
   tx_once = p.tx_once;
+  tx_some = p.tx_some;
   rx_once = λ n.
       let e : copies n (map number_of r.arrived) ≡ one_if (eqb n x.number) + copies n (map number_of arrived') = ap (λ xs. copies n (map number_of xs)) q in
       let c : copies n (opened_number r.current) ≡ 0 = ap (λ o. copies n (opened_number o)) none in
       let w : copies n r.home + copies n (map number_of r.arrived) + copies n (opened_number r.current) + (copies n (map number_of bus.posted) + copies n (flight_rx bus.flight)) ≤ 1 = p.rx_once n in omega arith;
+  rx_some = λ n low.
+      let e : copies n (map number_of r.arrived) ≡ one_if (eqb n x.number) + copies n (map number_of arrived') = ap (λ xs. copies n (map number_of xs)) q in
+      let c : copies n (opened_number r.current) ≡ 0 = ap (λ o. copies n (opened_number o)) none in
+      let w : 1 ≤ copies n r.home + copies n (map number_of r.arrived) + copies n (opened_number r.current) + (copies n (map number_of bus.posted) + copies n (flight_rx bus.flight)) = p.rx_some n low in omega arith;
   tx_all = p.tx_all;
   rx_all =
       let e : length r.arrived ≡ suc (length arrived') = ap length q in

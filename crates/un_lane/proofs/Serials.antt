@@ -2,10 +2,10 @@
 use Rattle.std.proofs.Common.{◌≡◌, ℕ, zero, suc, ◌<◌, ◌≤◌, Bool, true, false, ◌&&◌, ◌||◌, ◌==◌, [], ◌∷◌, ◌++◌, inl, inr, refl, sym, ap, ◌∙◌, subst, arith, append-nil}
 use Rattle.std.proofs.lemmas.Bool.{cases_lt, eq-eqb, ne_eqb, false≢true}
 use Rattle.un_journal.specs.History.{those}
+use Rattle.un_journal.proofs.Homes.{those_same as same_lists}
 
 pub those_same : (p q : ℕ → Bool) (n : ℕ) → ((j : ℕ) → j < n → q j ≡ p j) → those q n ≡ those p n
-those_same p q zero h = refl
-those_same p q (suc n) h = rw (those_same p q n (λ j i. h j (omega arith)), h n (omega arith)) refl
+those_same p q n h = same_lists q p n h
 
 -- q passes what p passes and k, which is above all that p passes
 pub those_plus : (p q : ℕ → Bool) (k : ℕ) → q k ≡ true → ((j : ℕ) → j < k → q j ≡ p j) → ((j : ℕ) → k ≤ j → p j ≡ false) → ((j : ℕ) → k < j → q j ≡ false)

@@ -1,5 +1,6 @@
 -- A fresh path stands for the empty history.
-use Rattle.std.proofs.Common.{◌≡◌, ℕ, zero, suc, ◌+◌, ◌<◌, ◌≤◌, Bool, true, false, ◌&&◌, eqb, [], ◌∷◌, ◌++◌, length, None, refl, sym, ap, subst, arith}
+use Rattle.std.proofs.Common.{◌≡◌, ℕ, zero, suc, ◌+◌, ◌<◌, ◌≤◌, Bool, true, false, ◌&&◌, eqb, [], ◌∷◌, ◌++◌, length, None, inl, inr, refl, sym, ap, ◌∙◌, subst, arith}
+use Rattle.std.proofs.lemmas.Bool.{cases_lt}
 use Rattle.un_frame.specs.declared.params.Params.{Params}
 use Rattle.un_frame.specs.declared.params.Lane.{Lane}
 use Rattle.un_frame.specs.declared.params.Lane.TheVariants.{Outward, Inward}
@@ -10,7 +11,7 @@ use Rattle.un_endpoint.specs.Ends.{Transmitter, Receiver, nothing_built}
 use Rattle.un_journal.specs.Script.{tx_size, rx_size}
 use Rattle.un_lane.specs.Fresh.{AreFresh}
 use Rattle.un_lane.specs.Stands.{Stands, claims_when, pends_when}
-use Rattle.un_lane.proofs.Counting.{copies_last, length_more}
+use Rattle.un_lane.proofs.Counting.{copies_last, length_more, one_here}
 
 no_copy : (m n : ℕ) → m ≤ n → copies n (upto m) ≡ 0
 no_copy zero n h = refl
@@ -42,6 +43,15 @@ one_copy (suc m) n = go (eqb n m) refl (one_copy m n)
         let c : copies n (upto m ++ m ∷ []) ≡ copies n (upto m) + one_if (eqb n m) = copies_last n (upto m) m in
         let z : one_if (eqb n m) ≡ 0 = ap one_if e in
         omega arith
+
+has_copy : (m n : ℕ) → n < m → 1 ≤ copies n (upto m)
+has_copy zero n h = absurd (omega arith)
+has_copy (suc m) n h =
+    let e : copies n (upto m ++ m ∷ []) ≡ copies n (upto m) + one_if (eqb n m) = copies_last n (upto m) m in
+    elim (cases_lt n m) [
+      | inl low ↦ let r : 1 ≤ copies n (upto m) = has_copy m n low in omega arith
+      | inr high ↦ let o : one_if (eqb n m) ≡ 1 = ap (λ i. one_if (eqb n i)) (let s : m ≡ n = omega arith in s) ∙ one_here n in omega arith
+    ]
 
 length_upto : (m : ℕ) → length (upto m) ≡ m
 length_upto zero = refl
@@ -80,6 +90,8 @@ fresh_stands lane params tx_count rx_count tx_capacity rx_capacity t r w = recor
     wide = w;
     tx_once = λ n. let o : copies n (upto tx_count) ≤ 1 = one_copy tx_count n in omega arith;
     rx_once = λ n. let o : copies n (upto rx_count) ≤ 1 = one_copy rx_count n in omega arith;
+    tx_some = λ n low. let o : 1 ≤ copies n (upto tx_count) = has_copy tx_count n low in omega arith;
+    rx_some = λ n low. let o : 1 ≤ copies n (upto rx_count) = has_copy rx_count n low in omega arith;
     tx_all = let l : length (upto tx_count) ≡ tx_count = length_upto tx_count in omega arith;
     rx_all = let l : length (upto rx_count) ≡ rx_count = length_upto rx_count in omega arith;
     deferred_are = tt;

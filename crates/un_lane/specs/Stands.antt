@@ -57,7 +57,7 @@ abbrev pub FlightIs : (FlightRecord → Type 0) → Option FlightRecord → Type
 FlightIs P None = Unit {0}
 FlightIs P (Some f) = P f
 
--- each request is in one place at most, and all of them are somewhere
+-- each request of a pool, by its number, is in exactly one place, and so many places are taken as there are requests
 pub record ArePlaced (lane : Lane) (t : Transmitter) (r : Receiver) (bus : Bus) : Type 0 where
   pub side : t.lane ≡ lane
   pub one_params : r.params ≡ t.params
@@ -70,6 +70,8 @@ pub record ArePlaced (lane : Lane) (t : Transmitter) (r : Receiver) (bus : Bus) 
   pub wide : t.capacity ≤ r.capacity
   pub tx_once : (n : ℕ) → tx_copies t n + bus_tx_copies bus n ≤ 1
   pub rx_once : (n : ℕ) → rx_copies r n + bus_rx_copies bus n ≤ 1
+  pub tx_some : (n : ℕ) → n < t.size → 1 ≤ tx_copies t n + bus_tx_copies bus n
+  pub rx_some : (n : ℕ) → n < r.size → 1 ≤ rx_copies r n + bus_rx_copies bus n
   pub tx_all : tx_count t + length bus.queue + length (flight_tx bus.flight) ≡ t.size
   pub rx_all : rx_count r + length bus.posted + length (flight_rx bus.flight) ≡ r.size
   pub deferred_are : AllByRecursion (IsTx t.size t.capacity) t.deferred
