@@ -3,3 +3,5 @@ pub mod Working
 pub mod Flying
 pub mod Holding
 pub mod Offers
+pub mod BothLanes
+pub mod Ordering

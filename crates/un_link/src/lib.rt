@@ -4,6 +4,7 @@
 mod cursors;
 mod link;
 mod offer;
+mod orders;
 mod task;
 mod work;
 
