@@ -1,0 +1,4 @@
+pub mod Parts
+pub mod Lots
+pub mod Feeds
+pub mod Examples

@@ -1,0 +1,15 @@
+//! The report of a run: what the two ends agreed on, the bytes that crossed meanwhile, and for each lane its counts and the frames
+//! that were delivered.
+#![tactic(auto)]
+
+mod frames;
+mod lines;
+mod lot;
+mod setup;
+mod survey;
+mod tally;
+#[cfg(test)]
+mod tests;
+mod writer;
+
+pub use writer::write;

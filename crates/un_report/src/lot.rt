@@ -1,0 +1,129 @@
+//! A lane's part of a history, line after line.
+
+ghost use Rattle.std.specs.Prelude.{◌≡◌, ◌+◌, ◌<◌, ◌≤◌, ◌∷◌, [], length, take, slice_get};
+ghost use Rattle.un_journal.specs.History.{concerns, past, made, span, made_bytes};
+ghost use Rattle.un_journal.specs.Sound.{IsSound};
+ghost use Rattle.un_report.specs.Counts.{span_size};
+ghost use Rattle.un_report.specs.Steps.{made_span, IsLot};
+
+use crate::tally::{Tally, count_end, count_line, is_end, nothing};
+use un_frame::Lane;
+use un_journal::{Journal, Line};
+
+/// What is known of a lane after some lines: its counts, and the place in the history from which to look for the line that makes
+/// the next transfer to end.
+#[derive(Clone, Copy, Debug)]
+pub struct Lot {
+    pub next: u64,
+    pub tally: Tally,
+}
+
+/// A transfer that was found: the place after the line that makes it, and how many datagrams and bytes it has.
+#[derive(Clone, Copy, Debug)]
+pub struct Found {
+    pub next: u64,
+    pub datagrams: u64,
+    pub bytes: u64,
+}
+
+/// Whether a line speaks of the lane.
+fn concerns(lane: Lane, line: Line) -> bool
+    ensures { result ≡ Rattle.un_journal.specs.History.concerns lane (line, []) }
+{
+    match line {
+        Line::Took { lane: l, .. }
+        | Line::Refused { lane: l, .. }
+        | Line::Made { lane: l, .. }
+        | Line::Waited { lane: l }
+        | Line::Posted { lane: l }
+        | Line::Flying { lane: l, .. }
+        | Line::Landed { lane: l, .. }
+        | Line::Failed { lane: l, .. }
+        | Line::Marked { lane: l, .. }
+        | Line::Cut { lane: l, .. }
+        | Line::Dropped { lane: l, .. }
+        | Line::TxHome { lane: l, .. }
+        | Line::Opened { lane: l, .. }
+        | Line::Gave { lane: l, .. }
+        | Line::Recalled { lane: l }
+        | Line::Cleared { lane: l } => lane == l,
+        Line::Control { .. } => false,
+        Line::Settled { .. } => true,
+    }
+}
+
+/// The span of a line that makes a transfer of the lane.
+fn made_span(lane: Lane, line: Line) -> Option<(u64, u64)>
+    ensures { result ≡ Rattle.un_report.specs.Steps.made_span lane line }
+{
+    match line {
+        Line::Made {
+            lane: l,
+            from,
+            to,
+            ..
+        } => if lane == l { Some((from, to)) } else { None },
+        _ => None,
+    }
+}
+
+/// The next transfer that the lane makes from a place on, which is before this index.
+fn find(journal: &Journal, lane: Lane, from: u64, index: u64) -> Found
+    requires sound { IsSound (past lane journal.now.history) }
+    requires order { from ≤ index }
+    requires within { index ≤ length journal.now.history }
+    requires some { made (past lane (take from journal.now.history)) < made (past lane (take index journal.now.history)) }
+    ensures datagrams { result.datagrams ≡ span_size (span (past lane (take index journal.now.history)) (made (past lane (take from journal.now.history)))) }
+    ensures bytes { result.bytes ≡ length (made_bytes (past lane (take index journal.now.history)) (made (past lane (take from journal.now.history)))) }
+    ensures ended { made (past lane (take result.next journal.now.history)) ≡ made (past lane (take from journal.now.history)) + 1 }
+    ensures order { result.next ≤ index }
+{
+    for at in from..index {
+        let (line, bytes) = journal.entry(at);
+        if let Some((begin, end)) = made_span(lane, line) {
+            return Found {
+                next: at + 1,
+                datagrams: end.saturating_sub(begin),
+                bytes: bytes.len() as u64,
+            };
+        }
+    }
+    unreachable!()
+}
+
+/// Nothing is known before the first line.
+pub fn first() -> Lot
+    ensures { (result.next ≡ 0) × (result.tally ≡ Rattle.un_report.specs.Counts.counts 512 []) }
+{
+    Lot {
+        next: 0,
+        tally: nothing(),
+    }
+}
+
+/// What is known with the line of this index too, for packets of so many bytes.
+pub fn count(journal: &Journal, lane: Lane, lot: Lot, packet: u32, index: u64) -> Lot
+    requires sound { IsSound (past lane journal.now.history) }
+    requires packet { 8 ≤ packet }
+    requires within { index < length journal.now.history }
+    requires few { index < 18446744073709551615 }
+    requires before { IsLot packet lane journal.now.history index lot }
+    ensures { IsLot packet lane journal.now.history (index + 1) result }
+{
+    journal.keeps_entries();
+    let line = journal.line(index);
+    if !concerns(lane, line) {
+        return lot;
+    }
+    if !is_end(line) {
+        return Lot {
+            next: lot.next,
+            tally: count_line(lot.tally, line, index),
+        };
+    }
+    let found = find(journal, lane, lot.next, index);
+    Lot {
+        next: found.next,
+        tally: count_end(lot.tally, line, found.datagrams, found.bytes, packet, index),
+    }
+}
