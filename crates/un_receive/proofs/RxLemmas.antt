@@ -1,5 +1,5 @@
 -- What always holds of a receiving end holds after each of its calls.
-use Rattle.std.proofs.Common.{◌≡◌, ℕ, suc, ◌+◌, ◌<◌, ◌≤◌, Bool, true, false, eqb, nat_lt, List, [], ◌∷◌, ◌++◌, length, map, Option, None, Some, refl, ap, ◌∙◌, subst, arith}
+use Rattle.std.proofs.Common.{◌≡◌, ℕ, suc, ◌+◌, ◌<◌, ◌≤◌, Bool, true, false, eqb, nat_lt, List, [], ◌∷◌, ◌++◌, length, map, Option, None, Some, refl, sym, ap, ◌∙◌, subst, arith}
 use Rattle.std.proofs.lemmas.Bool.{ltb-true, ltb-false}
 use Rattle.std.specs.List.{AllByRecursion}
 use Rattle.un_frame.specs.declared.params.Lane.{Lane}
@@ -7,6 +7,7 @@ use Rattle.un_frame.specs.declared.params.Params.{Params}
 use Rattle.un_req.specs.Request.{Buffer, IsOut, Store, copies, number_of, one_if}
 use Rattle.un_req.proofs.Homes.{all_more}
 use Rattle.un_endpoint.specs.Ends.{IsAwayRx, IsWhole, Opened, Receiver, opened_number, rx_copies}
+use Rattle.un_endpoint.specs.EndOutcomes.{LeavesHome}
 use Rattle.un_ends.proofs.Copies.{copies_append, copies_last, few, none_has, one_cases, one_here}
 use Rattle.un_ends.proofs.Starts.{upto_none, upto_once}
 use Rattle.un_receive.specs.Rx.{IsSized, IsSoundRx, fresh_rx, rx_size}
@@ -157,3 +158,17 @@ module _ (r : Receiver) (opened : Opened) (is : r.current ≡ Some opened) (s : 
       below : (n size : ℕ) (b : Bool) → nat_lt n size ≡ b → (size ≤ n → ⊥) → n < size
       below n size true e no_more = ltb-true n size e
       below n size false e no_more = absurd (no_more (ltb-false n size e))
+
+-- a request that was taken to be posted is in none of the places
+pub refilled_away : (old new : Receiver) (request : Buffer) → ((n : ℕ) → rx_copies old n ≤ 1) → LeavesHome old new request → IsAwayRx new request
+refilled_away old new request once l =
+    let k = request.number in
+    let size : new.size ≡ old.size = ap (λ (r : Receiver). r.size) l.rest in
+    let capacity : new.capacity ≡ old.capacity = ap (λ (r : Receiver). r.capacity) l.rest in
+    let arrived : copies k (map number_of new.arrived) ≡ copies k (map number_of old.arrived) = ap (λ (r : Receiver). copies k (map number_of r.arrived)) l.rest in
+    let current : copies k (opened_number new.current) ≡ copies k (opened_number old.current) = ap (λ (r : Receiver). copies k (opened_number r.current)) l.rest in
+    let home : copies k old.home ≡ copies k new.home + (one_if (eqb k k) + 0) = ap (λ (ns : List ℕ). copies k ns) l.left ∙ copies_append k new.home (k ∷ []) in
+    let one = one_here k in
+    let all : rx_copies old k ≤ 1 = once k in
+    let known : k < old.size = l.known in
+    record { known = omega (arith, size, known); sized = ap (λ (b : Buffer). b.capacity) l.empty ∙ sym capacity; away = omega (arith, arrived, current, home, one, all) }
