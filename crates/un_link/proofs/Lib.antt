@@ -3,5 +3,13 @@ pub mod Working
 pub mod Flying
 pub mod Holding
 pub mod Offers
+pub mod Rooms
+pub mod Fresh
+pub mod Resting
+pub mod SameFlights
+pub mod Takings
+pub mod Flights
 pub mod BothLanes
 pub mod Ordering
+pub mod Controlling
+pub mod Settling

@@ -2,6 +2,7 @@
 use Rattle.std.proofs.Common.{◌≡◌, ◌≢◌, ◌⊎◌, inl, inr, ℕ, zero, suc, ◌+◌, ◌-◌, ◌<◌, ◌≤◌, ◌^◌, Bool, true, false, not, ◌&&◌, ◌||◌, ◌==◌, nat_lt, List, [], ◌∷◌, ◌++◌, length, drop, slice_get, unwrap_or, Option, Some, None, refl, sym, ap, ◌∙◌, subst, arith, append-nil, if◌then◌else◌}
 use Rattle.std.proofs.lemmas.List.{drop-append-le}
 use Rattle.std.proofs.lemmas.Bool.{ne_eqb}
+use Rattle.std.proofs.lemmas.Bool.Decides.{nat_tests}
 use Rattle.un_endpoint.specs.Ends.{Transmitter}
 use Rattle.un_frame.specs.declared.params.Lane.{Lane}
 use Rattle.un_frame.specs.declared.params.Lane.TheVariants.{Outward, Inward}
@@ -9,7 +10,7 @@ use Rattle.un_frame.specs.declared.params.Params.{Params}
 use Rattle.un_frame.specs.declared.kinds.Phase.{Phase}
 use Rattle.un_frame.specs.declared.kinds.Verdict.{Verdict}
 use Rattle.un_frame.specs.declared.kinds.Verdict.TheVariants.{Take}
-use Rattle.un_frame.specs.Verdict.{verdict_of}
+use Rattle.un_frame.specs.Verdict.{verdict_of, is_kept_out}
 use Rattle.un_endpoint.specs.EndOutcomes.{with_frame}
 use Rattle.un_journal.specs.declared.lines.Line.{Line}
 use Rattle.un_journal.specs.declared.lines.Line.TheVariants.{Took, Made, Refused}
@@ -20,7 +21,7 @@ use Rattle.un_journal.specs.Log.{Log}
 use Rattle.un_frame.specs.Cut.{closed_span}
 use Rattle.un_journal.specs.Lookup.{tx_home, offer_needs_home, is_asleep, works, phase_of, built_frames, datagrams, feed_head, span_after_took}
 use Rattle.un_journal.specs.LaneSteps.{Outcome, Writes, Answers, lines_in, answer_in, bare, accept, made_lines}
-use Rattle.un_journal.specs.Step.{Work, work, judge, offer_head}
+use Rattle.un_journal.specs.Step.{Work, work, judge, offer_head, is_still}
 use Rattle.un_journal.specs.Sound.{IsSound}
 use Rattle.un_journal.proofs.Formed.{count_datagrams}
 use Rattle.un_journal.proofs.LinkFacts.{past_short}
@@ -296,3 +297,26 @@ refuse_reads log log' c lane sender why e r =
 
 pub pushed : (log log' : Log) (line : Line) → log'.history ≡ log.history ++ bare line ∷ [] → log'.spare_lines + 1 ≡ log.spare_lines → log'.spare_bytes + 0 ≡ log.spare_bytes → Adds log log' (bare line ∷ [])
 pushed log log' line e l b = record { history_is = e; lines_left = l; bytes_left = omega (arith, b) }
+
+-- A READING
+
+lt_no : (n m : ℕ) → nat_lt m n ≡ false → n ≤ m
+lt_no n m e = grind (arith, nat_tests)
+
+-- a frame that is to be taken is no longer than a segment
+pub taken_length : (params : Params) (lane : Lane) (frame : List ℕ) → verdict_of params lane frame ≡ Take → length frame ≤ params.segment
+taken_length params lane frame v = go (nat_lt (length frame) 14) (nat_lt params.segment (length frame)) refl v
+  where
+    rest : Verdict
+    rest = if is_kept_out params lane frame then Verdict.Filtered else Take
+
+    go : (a b : Bool) → nat_lt params.segment (length frame) ≡ b → (if a then Verdict.Short else (if b then Verdict.Long else rest)) ≡ Take → length frame ≤ params.segment
+    go true b e w = absurd (cc)
+    go false true e w = absurd (cc)
+    go false false e w = lt_no (length frame) params.segment e
+
+-- whether the offer of a good frame would write lines
+pub take_still : (script : Script) (phase : Phase) (way : Way) (h : History) (sender : ℕ) (frame : Frame) → Keeps script phase way (past way.lane h) → phase ≡ phase_of script h → works phase ≡ true
+    → feed_head script way.lane (past way.lane h) sender ≡ Some frame → verdict_of script.params way.lane frame ≡ Take
+    → is_still (work script h (Work.Offer way.lane sender)) ≡ is_still (accept way.tx.params way.lane sender (with_frame way.tx frame) (past way.lane h))
+take_still script phase way h sender frame k p w head v = ap is_still (accept_is script phase way h sender frame k p w head v)

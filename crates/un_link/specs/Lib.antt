@@ -1,3 +1,5 @@
+pub mod Flights
 pub mod Keeps
 pub mod Link
+pub mod Ends
 pub mod Orders

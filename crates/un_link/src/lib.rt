@@ -2,10 +2,16 @@
 #![tactic(auto)]
 
 mod cursors;
+mod flight;
+mod homes;
 mod link;
 mod offer;
 mod orders;
+mod room;
 mod task;
+mod transfer;
 mod work;
 
+pub use flight::{LinkCarried, LinkFlight};
+pub use homes::Homes;
 pub use link::LinkOver;

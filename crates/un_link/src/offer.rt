@@ -4,10 +4,11 @@ ghost use Rattle.std.specs.Prelude.{◌≡◌, ◌≢◌, ◌||◌, ◌+◌, ◌
 ghost use Rattle.un_frame.specs.declared.kinds.Verdict.TheVariants.{Take};
 ghost use Rattle.un_frame.specs.Verdict.{verdict_of};
 ghost use Rattle.un_journal.specs.History.{past, consumed, more_if};
-ghost use Rattle.un_journal.specs.Lookup.{feed_head, phase_of, works};
+ghost use Rattle.un_journal.specs.Lookup.{feed_head, feeds_empty, phase_of, works};
 ghost use Rattle.un_journal.specs.LaneSteps.{lines_in};
-ghost use Rattle.un_journal.specs.Step.{Offer, work};
+ghost use Rattle.un_journal.specs.Step.{Offer, is_still, work};
 ghost use Rattle.un_lane.specs.Way.{HasRoom};
+ghost use Rattle.un_link.specs.Ends.{offers_still};
 ghost use Rattle.un_link.specs.Keeps.{AreRead, Does, Keeps};
 
 use crate::cursors::Cursors;
@@ -90,4 +91,72 @@ fn accept<T: TxEnd + Drop, R: RxEnd + Drop>(
         }
         other => other,
     }
+}
+
+/// Whether no offer of the lane's four senders would take or refuse a frame.
+pub(crate) fn offers_nothing<T: TxEnd + Drop, R: RxEnd + Drop>(
+    path: &Path<T, R>,
+    read: &Cursors,
+    journal: &Journal,
+    script: &Script,
+    phase: Phase,
+    lane: Lane,
+) -> bool
+    requires lane { path.now.lane ≡ lane }
+    requires keeps { Keeps script.now phase path.now (past lane journal.now.history) }
+    requires read { AreRead read.now (past lane journal.now.history) }
+    requires phase { phase ≡ phase_of script.now journal.now.history }
+    ensures { result ≡ offers_still script.now journal.now.history lane }
+{
+    stays(path, read, journal, script, phase, lane, 0)
+        && stays(path, read, journal, script, phase, lane, 1)
+        && stays(path, read, journal, script, phase, lane, 2)
+        && stays(path, read, journal, script, phase, lane, 3)
+}
+
+/// Whether an offer of the sender would neither take nor refuse a frame.
+fn stays<T: TxEnd + Drop, R: RxEnd + Drop>(
+    path: &Path<T, R>,
+    read: &Cursors,
+    journal: &Journal,
+    script: &Script,
+    phase: Phase,
+    lane: Lane,
+    sender: u32,
+) -> bool
+    requires lane { path.now.lane ≡ lane }
+    requires keeps { Keeps script.now phase path.now (past lane journal.now.history) }
+    requires read { AreRead read.now (past lane journal.now.history) }
+    requires phase { phase ≡ phase_of script.now journal.now.history }
+    ensures { result ≡ is_still (work script.now journal.now.history (Offer lane sender)) }
+{
+    let _ = journal;
+    script.is_ready();
+    let Some(frame) = script.frame(lane, sender, read.at(sender)) else {
+        return true;
+    };
+    if !takes_frames(phase) {
+        return true;
+    }
+    match verdict(script.params(), lane, frame) {
+        Verdict::Take => !path.can_offer(frame.len() as u32),
+        _ => false,
+    }
+}
+
+/// Whether the lane's four feeds are empty.
+pub(crate) fn feeds_are_empty(
+    read: &Cursors,
+    journal: &Journal,
+    script: &Script,
+    lane: Lane,
+) -> bool
+    requires { AreRead read.now (past lane journal.now.history) }
+    ensures { result ≡ feeds_empty script.now lane (past lane journal.now.history) }
+{
+    let _ = journal;
+    script.frame(lane, 0, read.at(0)).is_none()
+        && script.frame(lane, 1, read.at(1)).is_none()
+        && script.frame(lane, 2, read.at(2)).is_none()
+        && script.frame(lane, 3, read.at(3)).is_none()
 }

@@ -1,0 +1,261 @@
+-- A link after a take and after a landing.
+use Rattle.std.proofs.Common.{◌≡◌, ℕ, ◌+◌, ◌<◌, Bool, true, false, List, [], ◌∷◌, ◌++◌, Option, Some, None, refl, sym, ap, ◌∙◌, subst, arith, append_assoc}
+use Rattle.un_frame.specs.declared.params.Lane.{Lane}
+use Rattle.un_frame.specs.declared.params.Lane.TheVariants.{Outward, Inward}
+use Rattle.un_frame.specs.Lanes.{same_lane}
+use Rattle.un_endpoint.specs.declared.record.FlightRecord.{FlightRecord}
+use Rattle.un_journal.specs.declared.machine.Flight.{Flight}
+use Rattle.un_journal.specs.declared.actions.Answer.{Answer}
+use Rattle.un_journal.specs.declared.got.Got.{Got}
+use Rattle.un_journal.specs.declared.got.Got.TheVariants.{Part, Cut, Not}
+use Rattle.un_journal.specs.Census.{one_if}
+use Rattle.un_journal.specs.Flights.{times, same_flight, Gains, Loses, Takes}
+use Rattle.un_journal.specs.Script.{Script}
+use Rattle.un_journal.specs.History.{History, past, flying}
+use Rattle.un_journal.specs.Log.{Log}
+use Rattle.un_journal.specs.declared.actions.Action.{Action}
+use Rattle.un_journal.specs.declared.lines.Line.TheVariants.{Flying, Cut as CutLine}
+use Rattle.un_journal.specs.LaneSteps.{lines_in, bare}
+use Rattle.un_journal.specs.Step.{Work, work, land_from, move_after, outcome}
+use Rattle.un_journal.specs.Fits.{Works}
+use Rattle.un_journal.proofs.LaneFacts.{lane_of}
+use Rattle.un_lane.specs.Way.{Way}
+use Rattle.un_lane.specs.Stands.{flight_serial}
+use Rattle.un_link.specs.declared.cursors.Cursors.{Cursors}
+use Rattle.un_link.specs.Keeps.{AreRead, Keeps}
+use Rattle.un_link.specs.Link.{Link, Holds, Steps, flight_in, lane_flights, flights_of}
+use Rattle.un_link.specs.Flights.{LaneTrip, flight_of, got_outcome, taken_of, taken_lines, landed_lines, Goes, Came, path_flights, TakesOut, BringsBack, across, flights_in, TakesFrom, LandsIn}
+use Rattle.un_link.proofs.Frames.{is_calm, calm_same}
+use Rattle.un_link.proofs.Holding.{act_logged, read_same, is_worked}
+use Rattle.un_link.proofs.SameFlights.{same_flight-is, same_flight-refl}
+
+-- THE INVARIANT
+
+-- the feeds are read as far as they were
+calm_read : (script : Script) (w : Work) (lane : Lane) (old new : Way) (log log' : Log) (c : Cursors) → lane_of w ≡ Some lane → is_calm w ≡ true → log'.history ≡ log.history ++ lines_in (work script log.history w) → AreRead c (past lane log.history)
+    → AreRead c (past lane log'.history)
+calm_read script w lane old new log log' c of calm e r =
+    subst (λ h. AreRead c (past lane h)) (sym e) (read_same c (past lane log.history) (past lane (log.history ++ lines_in (work script log.history w))) r (calm_same script log.history w lane of calm).feeds)
+
+pub out_goes : (link : Link) (w : Work) (out' : Way) (log' : Log) → Holds link → lane_of w ≡ Some Outward → is_calm w ≡ true → Goes link.script link.phase w link.out out' link.log log'
+    → Holds (record link { log = log'; out = out' })
+out_goes link w out' log' k of calm d =
+    let x = is_worked link.script Outward w link.log.history log'.history of d.adds.history_is in
+    let at : out'.lane ≡ Outward = d.lane_is ∙ k.out_lane in
+    record {
+      logged = act_logged link.script link.log log' (Works w) k.logged d.adds;
+      out_lane = at;
+      in_lane = k.in_lane;
+      out_keeps = subst (λ l. Keeps link.script link.phase out' (past l log'.history)) at d.keeps;
+      in_keeps = subst (Keeps link.script link.phase link.inward) (sym (x.other Inward refl)) k.in_keeps;
+      out_read_is = calm_read link.script w Outward link.out out' link.log log' link.out_read of calm d.adds.history_is k.out_read_is;
+      in_read_is = subst (AreRead link.in_read) (sym (x.other Inward refl)) k.in_read_is;
+      phase_is = k.phase_is ∙ sym x.phase_is;
+      done_is = k.done_is ∙ sym x.done_is;
+    }
+
+pub in_goes : (link : Link) (w : Work) (in' : Way) (log' : Log) → Holds link → lane_of w ≡ Some Inward → is_calm w ≡ true → Goes link.script link.phase w link.inward in' link.log log'
+    → Holds (record link { log = log'; inward = in' })
+in_goes link w in' log' k of calm d =
+    let x = is_worked link.script Inward w link.log.history log'.history of d.adds.history_is in
+    let at : in'.lane ≡ Inward = d.lane_is ∙ k.in_lane in
+    record {
+      logged = act_logged link.script link.log log' (Works w) k.logged d.adds;
+      out_lane = k.out_lane;
+      in_lane = at;
+      out_keeps = subst (Keeps link.script link.phase link.out) (sym (x.other Outward refl)) k.out_keeps;
+      in_keeps = subst (λ l. Keeps link.script link.phase in' (past l log'.history)) at d.keeps;
+      out_read_is = subst (AreRead link.out_read) (sym (x.other Outward refl)) k.out_read_is;
+      in_read_is = calm_read link.script w Inward link.inward in' link.log log' link.in_read of calm d.adds.history_is k.in_read_is;
+      phase_is = k.phase_is ∙ sym x.phase_is;
+      done_is = k.done_is ∙ sym x.done_is;
+    }
+
+-- THE LANES' FLIGHTS
+
+pub out_takes : (link : Link) (out' : Way) (log' : Log) (got : Got LaneTrip) → Holds link → TakesOut link.script link.phase link.out out' link.log log' got
+    → TakesFrom Outward link (record link { log = log'; out = out' }) got
+out_takes link out' log' got k t =
+    let d = subst (λ l. Goes link.script link.phase (Work.Take l) link.out out' link.log log') k.out_lane t.goes in
+    let x = is_worked link.script Outward (Work.Take Outward) link.log.history log'.history refl d.adds.history_is in
+    let came = subst (λ l. Came link.out.lane (past link.out.lane link.log.history) (work link.script link.log.history (Work.Take link.out.lane)) got (path_flights link.out link.log) (lane_flights l (past l log'.history) out'.bus.flight)) d.lane_is t.came in
+    record {
+      came = subst (λ l. Came l (past l link.log.history) (work link.script link.log.history (Work.Take l)) got (lane_flights l (past l link.log.history) link.out.bus.flight) (lane_flights l (past l log'.history) out'.bus.flight)) k.out_lane came;
+      others = ap (λ g. lane_flights Inward g link.inward.bus.flight) (x.other Inward refl);
+    }
+
+pub in_takes : (link : Link) (in' : Way) (log' : Log) (got : Got LaneTrip) → Holds link → TakesOut link.script link.phase link.inward in' link.log log' got
+    → TakesFrom Inward link (record link { log = log'; inward = in' }) got
+in_takes link in' log' got k t =
+    let d = subst (λ l. Goes link.script link.phase (Work.Take l) link.inward in' link.log log') k.in_lane t.goes in
+    let x = is_worked link.script Inward (Work.Take Inward) link.log.history log'.history refl d.adds.history_is in
+    let came = subst (λ l. Came link.inward.lane (past link.inward.lane link.log.history) (work link.script link.log.history (Work.Take link.inward.lane)) got (path_flights link.inward link.log) (lane_flights l (past l log'.history) in'.bus.flight)) d.lane_is t.came in
+    record {
+      came = subst (λ l. Came l (past l link.log.history) (work link.script link.log.history (Work.Take l)) got (lane_flights l (past l link.log.history) link.inward.bus.flight) (lane_flights l (past l log'.history) in'.bus.flight)) k.in_lane came;
+      others = ap (λ g. lane_flights Outward g link.out.bus.flight) (x.other Outward refl);
+    }
+
+pub out_lands : (link : Link) (out' : Way) (log' : Log) → Holds link → BringsBack link.script link.phase link.out out' link.log log'
+    → LandsIn Outward link (record link { log = log'; out = out' })
+out_lands link out' log' k t =
+    let d = subst (λ l. Goes link.script link.phase (Work.Land l) link.out out' link.log log') k.out_lane t.goes in
+    let x = is_worked link.script Outward (Work.Land Outward) link.log.history log'.history refl d.adds.history_is in
+    record {
+      none_out = ap (lane_flights Outward (past Outward log'.history)) t.none_out;
+      others = ap (λ g. lane_flights Inward g link.inward.bus.flight) (x.other Inward refl);
+    }
+
+pub in_lands : (link : Link) (in' : Way) (log' : Log) → Holds link → BringsBack link.script link.phase link.inward in' link.log log'
+    → LandsIn Inward link (record link { log = log'; inward = in' })
+in_lands link in' log' k t =
+    let d = subst (λ l. Goes link.script link.phase (Work.Land l) link.inward in' link.log log') k.in_lane t.goes in
+    let x = is_worked link.script Inward (Work.Land Inward) link.log.history log'.history refl d.adds.history_is in
+    record {
+      none_out = ap (lane_flights Inward (past Inward log'.history)) t.none_out;
+      others = ap (λ g. lane_flights Outward g link.out.bus.flight) (x.other Outward refl);
+    }
+
+-- HOW OFTEN A FLIGHT IS OUT
+
+times_append : (x : Flight) (xs ys : List Flight) → times x (xs ++ ys) ≡ times x xs + times x ys
+times_append x [] ys = omega arith
+times_append x (y ∷ xs) ys = let w : times x (xs ++ ys) ≡ times x xs + times x ys = times_append x xs ys in omega arith
+
+-- those of one lane and those of the other
+both : (x : Flight) (lane : Lane) (link : Link) → times x (flights_of link) ≡ times x (flights_in lane link) + times x (flights_in (across lane) link)
+both x Outward link = times_append x (flights_in Outward link) (flights_in Inward link)
+both x Inward link = let w : times x (flights_of link) ≡ times x (flights_in Outward link) + times x (flights_in Inward link) = times_append x (flights_in Outward link) (flights_in Inward link) in omega arith
+
+elsewhere : (x : Flight) (lane : Lane) (g : History) (o : Option FlightRecord) → same_lane x.transfer.lane lane ≡ false → times x (lane_flights lane g o) ≡ 0
+elsewhere x lane g None e = refl
+elsewhere x lane g (Some f) e = rw e refl
+
+apart : (lane : Lane) → same_lane lane (across lane) ≡ false
+apart Outward = refl
+apart Inward = refl
+
+-- a flight of one lane isn't one of the other's
+never_across : (x : Flight) (lane : Lane) (link : Link) → x.transfer.lane ≡ lane → times x (flights_in (across lane) link) ≡ 0
+never_across x Outward link e = elsewhere x Inward (past Inward link.log.history) link.inward.bus.flight (ap (λ l. same_lane l Inward) e)
+never_across x Inward link e = elsewhere x Outward (past Outward link.log.history) link.out.bus.flight (ap (λ l. same_lane l Outward) e)
+
+only : (x : Flight) (lane : Lane) (g : History) (o : Option FlightRecord) → 0 < times x (lane_flights lane g o) → lane_flights lane g o ≡ x ∷ []
+only x lane g None e = absurd (omega (arith, e))
+only x lane g (Some f) e = go (same_flight x (flight_in lane g f)) refl
+  where
+    go : (b : Bool) → same_flight x (flight_in lane g f) ≡ b → flight_in lane g f ∷ [] ≡ x ∷ []
+    go true q = ap (λ y. y ∷ []) (sym (same_flight-is x (flight_in lane g f) q))
+    go false q = absurd (omega (arith, e, ap one_if q))
+
+only_in : (x : Flight) (lane : Lane) (link : Link) → 0 < times x (flights_in lane link) → flights_in lane link ≡ x ∷ []
+only_in x Outward link e = only x Outward (past Outward link.log.history) link.out.bus.flight e
+only_in x Inward link e = only x Inward (past Inward link.log.history) link.inward.bus.flight e
+
+-- a flight that is out is its lane's only one
+pub is_only : (x : Flight) (lane : Lane) (link : Link) → x.transfer.lane ≡ lane → 0 < times x (flights_of link) → flights_in lane link ≡ x ∷ []
+is_only x lane link e out =
+    let b : times x (flights_of link) ≡ times x (flights_in lane link) + times x (flights_in (across lane) link) = both x lane link in
+    let n : times x (flights_in (across lane) link) ≡ 0 = never_across x lane link e in
+    only_in x lane link (omega arith)
+
+-- and a lane's flight is out
+pub is_out : (x : Flight) (lane : Lane) (link : Link) → flights_in lane link ≡ x ∷ [] → 0 < times x (flights_of link)
+is_out x lane link e =
+    let b : times x (flights_of link) ≡ times x (flights_in lane link) + times x (flights_in (across lane) link) = both x lane link in
+    let o : times x (flights_in lane link) ≡ times x (x ∷ []) = ap (times x) e in
+    let s : one_if (same_flight x x) ≡ 1 = ap one_if (same_flight-refl x) in
+    omega arith
+
+pub same_flights : (lane : Lane) (old new : Link) → flights_in lane new ≡ flights_in lane old → flights_in (across lane) new ≡ flights_in (across lane) old → flights_of new ≡ flights_of old
+same_flights Outward old new a b = ap (λ xs. xs ++ flights_in Inward new) a ∙ ap (λ xs. flights_in Outward old ++ xs) b
+same_flights Inward old new a b = ap (λ xs. xs ++ flights_in Inward new) b ∙ ap (λ xs. flights_in Outward old ++ xs) a
+
+-- WHAT A CALL SAYS
+
+gains : (x : Flight) (lane : Lane) (old new : Link) → x.transfer.lane ≡ lane → flights_in lane old ≡ [] → flights_in lane new ≡ x ∷ [] → flights_in (across lane) new ≡ flights_in (across lane) old
+    → Gains x (flights_of old) (flights_of new)
+gains x lane old new at none one others = (more, before)
+  where
+    more : (y : Flight) → times y (flights_of new) ≡ times y (flights_of old) + times y (x ∷ [])
+    more y =
+        let a : times y (flights_of new) ≡ times y (flights_in lane new) + times y (flights_in (across lane) new) = both y lane new in
+        let b : times y (flights_of old) ≡ times y (flights_in lane old) + times y (flights_in (across lane) old) = both y lane old in
+        let c : times y (flights_in lane new) ≡ times y (x ∷ []) = ap (times y) one in
+        let d : times y (flights_in lane old) ≡ 0 = ap (times y) none in
+        let e : times y (flights_in (across lane) new) ≡ times y (flights_in (across lane) old) = ap (times y) others in
+        omega arith
+
+    before : times x (flights_of old) ≡ 0
+    before =
+        let b : times x (flights_of old) ≡ times x (flights_in lane old) + times x (flights_in (across lane) old) = both x lane old in
+        let d : times x (flights_in lane old) ≡ 0 = ap (times x) none in
+        let n : times x (flights_in (across lane) old) ≡ 0 = never_across x lane old at in
+        omega arith
+
+pub takes : (lane : Lane) (old new : Link) (got : Got LaneTrip) → TakesFrom lane old new got → Takes flight_of got (taken_of old.script old.log.history lane) (flights_of old) (flights_of new)
+takes lane old new (Part f) t = (t.came.names, gains (flight_of f) lane old new t.came.lane_is t.came.none_was t.came.is_out t.others)
+takes lane old new Cut t = (ap (got_outcome lane (past lane old.log.history)) t.came.writes.2, same_flights lane old new (t.came.none_is ∙ sym t.came.none_was) t.others)
+takes lane old new (Not answer) t = (ap (got_outcome lane (past lane old.log.history)) t.came.0, same_flights lane old new t.came.1 t.others)
+
+pub loses : (x : Flight) (lane : Lane) (old new : Link) → flights_in lane old ≡ x ∷ [] → LandsIn lane old new → Loses x (flights_of old) (flights_of new)
+loses x lane old new one t y =
+    let a : times y (flights_of new) ≡ times y (flights_in lane new) + times y (flights_in (across lane) new) = both y lane new in
+    let b : times y (flights_of old) ≡ times y (flights_in lane old) + times y (flights_in (across lane) old) = both y lane old in
+    let c : times y (flights_in lane old) ≡ times y (x ∷ []) = ap (times y) one in
+    let d : times y (flights_in lane new) ≡ 0 = ap (times y) t.none_out in
+    let e : times y (flights_in (across lane) new) ≡ times y (flights_in (across lane) old) = ap (times y) t.others in
+    omega arith
+
+-- where a lane has no flight out a landing writes nothing
+no_serial : (lane : Lane) (g : History) (o : Option FlightRecord) → lane_flights lane g o ≡ [] → flight_serial o ≡ []
+no_serial lane g None e = refl
+no_serial lane g (Some f) e = absurd (cc)
+
+none_lands : (script : Script) (lane : Lane) (g : History) (ks : List ℕ) → ks ≡ [] → lines_in (land_from script lane g ks) ≡ []
+none_lands script lane g ks e = rw e refl
+
+pub nothing_lands : (lane : Lane) (link : Link) → Holds link → flights_in lane link ≡ [] → lines_in (work link.script link.log.history (Work.Land lane)) ≡ []
+nothing_lands Outward link k e = none_lands link.script Outward (past Outward link.log.history) (flying (past Outward link.log.history)) (k.out_keeps.stands.queues.fly ∙ no_serial Outward (past Outward link.log.history) link.out.bus.flight e)
+nothing_lands Inward link k e = none_lands link.script Inward (past Inward link.log.history) (flying (past Inward link.log.history)) (k.in_keeps.stands.queues.fly ∙ no_serial Inward (past Inward link.log.history) link.inward.bus.flight e)
+
+-- MOVE
+
+-- a flight that is taken and landed
+pub moves : (lane : Lane) (old mid new : Link) (f : LaneTrip) (answer : Answer)
+    → mid.script ≡ old.script → mid.log.history ≡ old.log.history ++ taken_lines old.script old.log.history lane → TakesFrom lane old mid (Part f)
+    → answer ≡ Answer.Did → new.script ≡ mid.script → new.log.history ≡ mid.log.history ++ landed_lines mid.script mid.log.history (flight_of f).transfer → LandsIn f.lane mid new
+    → Steps old new (outcome old.script old.log.history (Action.Move lane)) answer
+moves lane old mid new f answer s h t a s' h' l =
+    let at = t.came.lane_is in
+    let first : History = bare (Flying lane f.trip.tx.serial) ∷ [] in
+    let then : History = lines_in (work old.script (old.log.history ++ first) (Work.Land lane)) in
+    let middle : mid.log.history ≡ old.log.history ++ first = h ∙ ap (λ o. old.log.history ++ lines_in o) t.came.writes in
+    let last : lines_in (work mid.script mid.log.history (Work.Land f.lane)) ≡ then =
+    ap (λ k. lines_in (work k mid.log.history (Work.Land f.lane))) s
+    ∙ (ap (λ m. lines_in (work old.script m (Work.Land f.lane))) middle
+    ∙ ap (λ k. lines_in (work old.script (old.log.history ++ first) (Work.Land k))) at) in
+    let ends = subst (λ k. LandsIn k mid new) at l in
+    subst (λ o. Steps old new (move_after old.script lane old.log.history o) answer) (sym t.came.writes) (record {
+      script_is = s' ∙ s;
+      history_is = h' ∙ (ap (λ m. mid.log.history ++ m) last ∙ (ap (λ m. m ++ then) middle ∙ append_assoc old.log.history first then));
+      answers = a;
+      flights_are = same_flights lane old new (ends.none_out ∙ sym t.came.none_was) (ends.others ∙ t.others);
+    })
+
+-- a queued transfer that is cut: nothing lands after it
+pub reaps : (lane : Lane) (old new : Link) → Holds new
+    → new.script ≡ old.script → new.log.history ≡ old.log.history ++ taken_lines old.script old.log.history lane → TakesFrom lane old new Cut
+    → Steps old new (outcome old.script old.log.history (Action.Move lane)) Answer.Did
+reaps lane old new k s h t =
+    let first : History = bare (CutLine lane t.came.writes.0 t.came.writes.1) ∷ [] in
+    let middle : new.log.history ≡ old.log.history ++ first = h ∙ ap (λ o. old.log.history ++ lines_in o) t.came.writes.2 in
+    let last : lines_in (work old.script (old.log.history ++ first) (Work.Land lane)) ≡ [] =
+    ap (λ m. lines_in (work old.script m (Work.Land lane))) (sym middle)
+    ∙ (ap (λ p. lines_in (work p new.log.history (Work.Land lane))) (sym s)
+    ∙ nothing_lands lane new k t.came.none_is) in
+    subst (λ o. Steps old new (move_after old.script lane old.log.history o) Answer.Did) (sym t.came.writes.2) (record {
+      script_is = s;
+      history_is = middle ∙ sym (ap (λ m. old.log.history ++ (first ++ m)) last);
+      answers = refl;
+      flights_are = same_flights lane old new (t.came.none_is ∙ sym t.came.none_was) t.others;
+    })

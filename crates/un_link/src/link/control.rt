@@ -1,0 +1,154 @@
+//! The controls of a link.
+
+ghost use Rattle.std.specs.Prelude.{◌≡◌, ◌||◌, Some, not, is_some, length, reverse, slice_get};
+ghost use Rattle.un_journal.specs.History.{past, taken};
+ghost use Rattle.un_journal.specs.Lookup.{controls_done, feeds_empty, is_leaving, is_stopping};
+ghost use Rattle.un_journal.specs.Script.{frames_of};
+ghost use Rattle.un_journal.specs.Step.{control, control_now, hinders, is_due};
+ghost use Rattle.un_lane.specs.Stands.{flight_serial};
+ghost use Rattle.un_link.specs.Keeps.{AreRead, cursor_at};
+ghost use Rattle.un_link.specs.Link.{Steps};
+
+use crate::cursors::Cursors;
+use crate::link::LinkOver;
+use crate::orders::{obey, phase_after};
+use un_endpoint::{RxEnd, TxEnd};
+use un_frame::{Lane, Phase};
+use un_journal::{Answer, Control, Due, Journal, Line};
+use un_lane::Path;
+use un_script::Script;
+
+/// Whether a stop or an unplugging isn't settled yet.
+pub(crate) fn stops(phase: Phase) -> bool
+    ensures { result ≡ (is_stopping phase || is_leaving phase) }
+{
+    matches!(phase, Phase::Stopping | Phase::Leaving)
+}
+
+/// How many flights of a lane are out: one or none.
+fn flights_out<T: TxEnd + Drop, R: RxEnd + Drop>(path: &Path<T, R>) -> u64
+    ensures { result ≡ length (flight_serial path.now.bus.flight) }
+{
+    match path.flying() {
+        Some(_) => 1,
+        None => 0,
+    }
+}
+
+/// Whether a sender's feed is empty.
+fn is_spent(script: &Script, lane: Lane, sender: u32, read: &Cursors) -> bool
+    ensures { result ≡ not (is_some (slice_get (frames_of script.now lane sender) (cursor_at read.now sender))) }
+{
+    match script.frame(lane, sender, read.at(sender)) {
+        Some(_) => false,
+        None => true,
+    }
+}
+
+/// Whether the feeds of all four senders of a lane are empty.
+fn feeds_spent(script: &Script, lane: Lane, read: &Cursors, journal: &Journal) -> bool
+    requires { AreRead read.now (past lane journal.now.history) }
+    ensures { result ≡ feeds_empty script.now lane (past lane journal.now.history) }
+{
+    let _ = journal;
+    is_spent(script, lane, 0, read)
+        && is_spent(script, lane, 1, read)
+        && is_spent(script, lane, 2, read)
+        && is_spent(script, lane, 3, read)
+}
+
+impl<A: TxEnd + Drop, B: RxEnd + Drop, C: TxEnd + Drop, D: RxEnd + Drop> LinkOver<A, B, C, D> {
+    /// Does the first control that isn't done, where it is due, or where it is forced and the link is quiet.
+    pub(crate) fn control(&mut self, force: bool) -> Answer
+        ensures { Steps self.old self.new (control self.old.script self.old.log.history force) result }
+    {
+        let Some(due) = self.script.control(self.done) else {
+            return Answer::NoControl;
+        };
+        let phase = self.phase;
+        if stops(phase) {
+            return Answer::Down { phase };
+        }
+        if self.is_due(due) {
+            return self.order(due, false);
+        }
+        if force && self.quiet() {
+            return self.order(due, true);
+        }
+        Answer::NotDue {
+            have: self.accepted(due.lane),
+            want: due.want,
+        }
+    }
+
+    /// Does a control that may be done now, unless transfers hinder it.
+    fn order(&mut self, due: Due, forced: bool) -> Answer
+        requires head { slice_get self.old.script.controls (controls_done (reverse self.old.log.history)) ≡ Some due }
+        requires fits { control self.old.script self.old.log.history forced ≡ control_now self.old.script self.old.log.history due forced }
+        ensures { Steps self.old self.new (control_now self.old.script self.old.log.history due forced) result }
+    {
+        let count = self.hinders(due.control);
+        if count > 0 {
+            return Answer::InFlight { count };
+        }
+        self.script.is_ready();
+        let index = self.done;
+        self.journal.push(Line::Control { index, forced }, &[]);
+        obey(
+            &mut self.out,
+            &mut self.inward,
+            &mut self.journal,
+            &self.script,
+            self.phase,
+            due.control,
+            index,
+        );
+        self.phase = phase_after(due.control, self.phase);
+        self.done += 1;
+        Answer::Did
+    }
+
+    /// Whether a control is due: `want` datagrams were accepted in its lane, or all feeds of that lane are empty. It takes constant time.
+    fn is_due(&self, due: Due) -> bool
+        ensures { result ≡ is_due self.now.script self.now.log.history due }
+    {
+        due.want <= self.accepted(due.lane) || self.has_spent(due.lane)
+    }
+
+    /// How many transfers are queued outward or fly in either lane, for a suspend; 0 for every other control.
+    fn hinders(&self, control: Control) -> u64
+        ensures { result ≡ hinders control self.now.phase (past Lane.Outward self.now.log.history) (past Lane.Inward self.now.log.history) }
+    {
+        match control {
+            Control::Suspend => self.in_flight(),
+            _ => 0,
+        }
+    }
+
+    /// How many transfers are queued outward or fly in either lane.
+    fn in_flight(&self) -> u64
+        ensures { result ≡ hinders Control.Suspend self.now.phase (past Lane.Outward self.now.log.history) (past Lane.Inward self.now.log.history) }
+    {
+        u64::from(self.out.queued()) + flights_out(&self.out) + flights_out(&self.inward)
+    }
+
+    /// How many datagrams of a lane were accepted.
+    fn accepted(&self, lane: Lane) -> u64
+        ensures { result ≡ taken (past lane self.now.log.history) }
+    {
+        match lane {
+            Lane::Outward => self.out.accepted(),
+            Lane::Inward => self.inward.accepted(),
+        }
+    }
+
+    /// Whether the feeds of a lane are empty.
+    fn has_spent(&self, lane: Lane) -> bool
+        ensures { result ≡ feeds_empty self.now.script lane (past lane self.now.log.history) }
+    {
+        match lane {
+            Lane::Outward => feeds_spent(&self.script, lane, &self.out_read, &self.journal),
+            Lane::Inward => feeds_spent(&self.script, lane, &self.in_read, &self.journal),
+        }
+    }
+}

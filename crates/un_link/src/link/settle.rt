@@ -1,0 +1,99 @@
+//! The end of a stop.
+
+ghost use Rattle.std.specs.Prelude.{◌≡◌, ◌==◌, ◌&&◌, ◌∷◌, []};
+ghost use Rattle.un_journal.specs.History.{past};
+ghost use Rattle.un_journal.specs.Lookup.{after_settled, rx_home, tx_home};
+ghost use Rattle.un_journal.specs.LaneSteps.{Writes, bare};
+ghost use Rattle.un_journal.specs.Step.{all_home, away, settle, settled_line};
+ghost use Rattle.un_link.specs.Link.{Steps};
+
+use crate::link::LinkOver;
+use crate::link::control::stops;
+use un_endpoint::{RxEnd, TxEnd};
+use un_frame::{Params, Phase};
+use un_journal::{Answer, Line};
+
+/// The phase after a stop is settled.
+fn phase_settled(phase: Phase) -> Phase
+    ensures { result ≡ after_settled phase }
+{
+    match phase {
+        Phase::Stopping => Phase::Down,
+        Phase::Leaving => Phase::Away,
+        other => other,
+    }
+}
+
+/// Whether so many requests are all of their pools.
+fn are_full(params: &Params, tx_out: u32, rx_out: u32, tx_in: u32, rx_in: u32) -> bool
+    ensures { result ≡ (tx_out == params.now.tx_out && rx_out == params.now.rx_out && tx_in == params.now.tx_in && rx_in == params.now.rx_in) }
+{
+    tx_out == params.tx_out
+        && rx_out == params.rx_out
+        && tx_in == params.tx_in
+        && rx_in == params.rx_in
+}
+
+impl<A: TxEnd + Drop, B: RxEnd + Drop, C: TxEnd + Drop, D: RxEnd + Drop> LinkOver<A, B, C, D> {
+    /// Settles a stop once every request is home.
+    pub(crate) fn settle(&mut self) -> Answer
+        ensures { Steps self.old self.new (settle self.old.script self.old.log.history) result }
+    {
+        if !stops(self.phase) {
+            return Answer::Nothing;
+        }
+        if !self.has_all_home() {
+            return Answer::Away {
+                count: self.requests_away(),
+            };
+        }
+        self.end_stop()
+    }
+
+    /// Ends a stop: the halts are cleared.
+    fn end_stop(&mut self) -> Answer
+        requires { settle self.old.script self.old.log.history ≡ Writes (bare (settled_line self.old.script self.old.log.history) ∷ []) }
+        ensures { Steps self.old self.new (settle self.old.script self.old.log.history) result }
+    {
+        let (tx_out, rx_out) = self.out.homes();
+        let (tx_in, rx_in) = self.inward.homes();
+        self.journal.push(
+            Line::Settled {
+                tx_out,
+                rx_out,
+                tx_in,
+                rx_in,
+            },
+            &[],
+        );
+        self.out.settle();
+        self.inward.settle();
+        self.phase = phase_settled(self.phase);
+        Answer::Did
+    }
+
+    /// Whether every request of both lanes is home.
+    pub(crate) fn has_all_home(&self) -> bool
+        ensures { result ≡ all_home self.now.script self.now.log.history }
+    {
+        let params = self.script.params();
+        let (tx_out, rx_out) = self.out.homes();
+        let (tx_in, rx_in) = self.inward.homes();
+        are_full(params, tx_out, rx_out, tx_in, rx_in)
+    }
+
+    /// How many requests of both lanes aren't home.
+    pub(crate) fn requests_away(&self) -> u64
+        ensures { result ≡ away self.now.script self.now.log.history }
+    {
+        let params = self.script.params();
+        let (tx_out, rx_out) = self.out.homes();
+        let (tx_in, rx_in) = self.inward.homes();
+        let pools = u64::from(params.tx_out)
+            + u64::from(params.rx_out)
+            + u64::from(params.tx_in)
+            + u64::from(params.rx_in);
+        let homes = u64::from(tx_out) + u64::from(rx_out) + u64::from(tx_in) + u64::from(rx_in);
+        pools.saturating_sub(homes)
+    }
+}

@@ -1,0 +1,143 @@
+//! What a link tells. No reading takes memory or changes anything.
+
+ghost use Rattle.std.specs.Prelude.{◌≡◌, ◌&&◌, ◌||◌, true, not};
+ghost use Rattle.un_frame.specs.declared.params.Lane.TheVariants.{Outward, Inward};
+ghost use Rattle.un_journal.specs.Fits.{IsDone};
+ghost use Rattle.un_journal.specs.History.{past};
+ghost use Rattle.un_journal.specs.Lookup.{is_leaving, is_stopping, phase_of, rx_home, tx_home};
+ghost use Rattle.un_journal.specs.Step.{Settle, away, is_still, quiet, work};
+ghost use Rattle.un_link.specs.Ends.{is_finished, offers_still};
+ghost use Rattle.un_link.specs.Link.{Holds};
+
+use crate::homes::Homes;
+use crate::link::LinkOver;
+use crate::offer::offers_nothing;
+use un_endpoint::{RxEnd, TxEnd};
+use un_frame::{Lane, Phase};
+use un_journal::{Census, Journal};
+use un_script::Script;
+
+impl<A: TxEnd + Drop, B: RxEnd + Drop, C: TxEnd + Drop, D: RxEnd + Drop> LinkOver<A, B, C, D> {
+    /// The phase.
+    pub fn phase(&self) -> Phase
+        ensures { result ≡ phase_of self.now.script self.now.log.history }
+    {
+        self.phase
+    }
+
+    /// Lends the history.
+    pub fn journal(&self) -> &Journal
+        ensures { result.now ≡ self.now.log }
+    {
+        &self.journal
+    }
+
+    /// Lends the script that the link was made with.
+    pub fn script(&self) -> &Script
+        ensures { result.now ≡ self.now.script }
+    {
+        &self.script
+    }
+
+    /// What holds of each link: its history is legal, and all that it keeps is what the history says.
+    pub fn holds(&self)
+        ensures { Holds self.now }
+    {
+        let _ = &self.journal;
+    }
+
+    /// How many requests of each pool are home.
+    pub fn homes(&self) -> Homes
+        ensures tx_out { result.tx_out ≡ tx_home self.now.script.params Outward (past Outward self.now.log.history) }
+        ensures rx_out { result.rx_out ≡ rx_home self.now.script.params Outward (past Outward self.now.log.history) }
+        ensures tx_in { result.tx_in ≡ tx_home self.now.script.params Inward (past Inward self.now.log.history) }
+        ensures rx_in { result.rx_in ≡ rx_home self.now.script.params Inward (past Inward self.now.log.history) }
+    {
+        let (tx_out, rx_out) = self.out.homes();
+        let (tx_in, rx_in) = self.inward.homes();
+        Homes {
+            tx_out,
+            rx_out,
+            tx_in,
+            rx_in,
+        }
+    }
+
+    /// Whether no flight is out and no action but a control would answer `Did`. It takes constant time.
+    pub fn quiet(&self) -> bool
+        ensures { result ≡ quiet self.now.script self.now.log.history }
+    {
+        let out = self.out.still(self.phase);
+        let inward = self.inward.still(self.phase);
+        let offers = self.offers_nothing();
+        let settles = self.would_settle();
+        are_all(out, inward, offers, !settles)
+    }
+
+    /// Whether the link is quiet and no control is left; then no step fits any more, and no flight is out.
+    pub fn finished(&self) -> bool
+        ensures answer { result ≡ is_finished self.now.script self.now.log.history }
+        ensures done { result ≡ true → IsDone self.now.script self.now.log.history }
+    {
+        self.quiet() && self.done == self.script.control_count()
+    }
+
+    /// Whether no offer would take or refuse a frame.
+    fn offers_nothing(&self) -> bool
+        ensures { result ≡ (offers_still self.now.script self.now.log.history Outward && offers_still self.now.script self.now.log.history Inward) }
+    {
+        offers_nothing(
+            &self.out,
+            &self.out_read,
+            &self.journal,
+            &self.script,
+            self.phase,
+            Lane::Outward,
+        ) && offers_nothing(
+            &self.inward,
+            &self.in_read,
+            &self.journal,
+            &self.script,
+            self.phase,
+            Lane::Inward,
+        )
+    }
+
+    /// Whether a stop would settle.
+    fn would_settle(&self) -> bool
+        ensures { is_still (work self.now.script self.now.log.history Settle) ≡ not result }
+    {
+        let away = self.away();
+        is_ending(self.phase) && away == 0
+    }
+
+    /// How many requests aren't home.
+    pub(crate) fn away(&self) -> u64
+        ensures { result ≡ away self.now.script self.now.log.history }
+    {
+        let params = self.script.params();
+        let homes = self.homes();
+        u64::from(params.tx_out)
+            + u64::from(params.rx_out)
+            + u64::from(params.tx_in)
+            + u64::from(params.rx_in)
+            - (u64::from(homes.tx_out)
+                + u64::from(homes.rx_out)
+                + u64::from(homes.tx_in)
+                + u64::from(homes.rx_in))
+    }
+}
+
+/// Whether all of these hold.
+fn are_all(first: bool, second: bool, third: bool, fourth: bool) -> bool
+    ensures { result ≡ ((first && second) && (third && fourth)) }
+{
+    first && second && third && fourth
+}
+
+/// Whether a stop or an unplug goes on in this phase.
+pub(crate) fn is_ending(phase: Phase) -> bool
+    ensures { result ≡ (is_stopping phase || is_leaving phase) }
+{
+    matches!(phase, Phase::Stopping | Phase::Leaving)
+}
