@@ -43,6 +43,11 @@ setup_line (BadAlignment alignment) = codes "setup refused alignment" ++ 32 ∷ 
 setup_line (NoFit segment block) = codes "setup refused no-fit" ++ 32 ∷ decimal segment ++ 32 ∷ decimal block ++ codes "\n"
 setup_line NoMemory = codes "no memory\n"
 
+-- the status of a fault of the set-up
+abbrev pub setup_status : SetupFault → ℕ
+setup_status NoMemory = 1
+setup_status fault = 6
+
 -- WHAT IS PRINTED
 
 -- the trace of a history, and its report

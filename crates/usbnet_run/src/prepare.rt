@@ -4,7 +4,7 @@ ghost use Rattle.std.specs.Prelude.{◌≡◌, ◌≤◌, ◌∷◌, ◌++◌, I
 ghost use Rattle.un_frame.specs.Params.{Agree, AreInRange};
 ghost use Rattle.un_script.specs.Reading.{script_of};
 ghost use Rattle.un_setup.specs.Agreement.{agreed_of};
-ghost use Rattle.usbnet_run.specs.Runs.{Disagrees, Refuses, bad_script_line, setup_line, why_word};
+ghost use Rattle.usbnet_run.specs.Runs.{Disagrees, Refuses, bad_script_line, setup_line, setup_status, why_word};
 ghost use Rattle.usbnet_run.specs.Refusals.{Tells};
 ghost use Rattle.usbnet_run.specs.Prepared.{IsNew, IsPrepared};
 
@@ -110,10 +110,20 @@ fn tell_setup<O: Sink>(out: &mut O, fault: SetupFault)
     }
 }
 
+/// The status of a fault of the set-up.
+fn setup_status(fault: SetupFault) -> u8
+    ensures { result ≡ Rattle.usbnet_run.specs.Runs.setup_status fault }
+{
+    match fault {
+        SetupFault::NoMemory => 1,
+        _ => 6,
+    }
+}
+
 /// The script of a text, or the status of its refusal, whose line was written, or a front of it: 1 for want of memory, 5 where the text is no script.
 fn read_script<O: Sink>(alloc: Global, out: &mut O, text: Vec<u8>) -> Result<Script, u8>
     ensures script { IfOk result (λ script. script_of text.items ≡ Ok script) }
-    ensures silent { IfOk result (λ script. O.held out.new ≡ O.held out.old) }
+    ensures silent { IfOk result (λ script. (O.held out.new ≡ O.held out.old) × (O.faults out.new ≡ O.faults out.old)) }
     ensures refused { IfErr result (λ status. Refuses text.items (O.held out.old) (O.held out.new) (O.faults out.old) (O.faults out.new) status) }
     ensures never_falls { O.faults out.old ≤ O.faults out.new }
 {
@@ -134,19 +144,15 @@ fn read_script<O: Sink>(alloc: Global, out: &mut O, text: Vec<u8>) -> Result<Scr
 fn set_up<O: Sink>(alloc: Global, out: &mut O, params: &Params) -> Result<Agreed, u8>
     requires { AreInRange params.now }
     ensures agreed { IfOk result (λ agreed. (agreed_of params.now ≡ Ok agreed) × Agree params.now) }
-    ensures silent { IfOk result (λ agreed. O.held out.new ≡ O.held out.old) }
+    ensures silent { IfOk result (λ agreed. (O.held out.new ≡ O.held out.old) × (O.faults out.new ≡ O.faults out.old)) }
     ensures refused { IfErr result (λ status. Disagrees params.now (O.held out.old) (O.held out.new) (O.faults out.old) (O.faults out.new) status) }
     ensures never_falls { O.faults out.old ≤ O.faults out.new }
 {
     match agree(alloc, params) {
         Ok(agreed) => Ok(agreed),
-        Err(SetupFault::NoMemory) => {
-            tell(out, b"no memory\n");
-            Err(1)
-        }
         Err(fault) => {
             tell_setup(out, fault);
-            Err(6)
+            Err(setup_status(fault))
         }
     }
 }
@@ -160,7 +166,7 @@ fn new_link<O: Sink>(
 ) -> Result<Prepared, u8>
     requires { agreed_of script.params ≡ Ok agreed }
     ensures link { IfOk result (λ p. IsNew script p.link × (p.agreed ≡ agreed)) }
-    ensures silent { IfOk result (λ p. O.held out.new ≡ O.held out.old) }
+    ensures silent { IfOk result (λ p. (O.held out.new ≡ O.held out.old) × (O.faults out.new ≡ O.faults out.old)) }
     ensures refused { IfErr result (λ status. (status ≡ 1) × Tells (O.held out.old) (O.held out.new) (O.faults out.old) (O.faults out.new) (codes "no memory\n")) }
     ensures never_falls { O.faults out.old ≤ O.faults out.new }
 {
@@ -177,7 +183,7 @@ fn new_link<O: Sink>(
 /// its parameters don't agree. Nothing is written where there is a link.
 pub fn prepare<O: Sink>(alloc: Global, out: &mut O, text: Vec<u8>) -> Result<Prepared, u8>
     ensures prepared { IfOk result (λ p. IsPrepared text.items p.link p.agreed) }
-    ensures silent { IfOk result (λ p. O.held out.new ≡ O.held out.old) }
+    ensures silent { IfOk result (λ p. (O.held out.new ≡ O.held out.old) × (O.faults out.new ≡ O.faults out.old)) }
     ensures refused { IfErr result (λ status. Refuses text.items (O.held out.old) (O.held out.new) (O.faults out.old) (O.faults out.new) status) }
     ensures never_falls { O.faults out.old ≤ O.faults out.new }
 {

@@ -6,10 +6,10 @@ pub returns-in-Err-BadLine-clause-refused : goal.returns-in-Err-BadLine-clause-r
 returns-in-Err-BadLine-clause-refused g c =
     Refuses.not_a_script c.in-Err-BadLine.line c.in-Err-BadLine.why
     (script_given _ _ _ c.deref.ensures.value (rw c.in-Err-BadLine.field-0-is at c.in-Err-BadLine.ensures))
-    (rw c.in-Err-BadLine.field-0-is at c.tell_bad_script.ensures.told)
-
-pub returns-in-Err-NoMemory-clause-refused : goal.returns-in-Err-NoMemory-clause-refused
-returns-in-Err-NoMemory-clause-refused g c = Refuses.wants_memory c.tell.ensures.told
+    c.tell_bad_script.ensures.told
 
 pub returns-in-Ok-clause-script : goal.returns-in-Ok-clause-script
 returns-in-Ok-clause-script g c = script_given _ _ _ c.deref.ensures.value c.in-Ok.ensures
+
+pub returns-clause-refused : goal.returns-clause-refused
+returns-clause-refused g c = Refuses.wants_memory c.tell.ensures.told
