@@ -19,18 +19,18 @@ use Rattle.usbnet_run.specs.declared.words.Command.{Command}
 use Rattle.usbnet_run.specs.declared.words.Command.TheVariants.{Serial, Decode}
 
 -- a source that is at its end gave all that it had
-gave_all : (text given : List ℕ) (left : Option (List ℕ)) → Consumes (Some text) left given → IsAtEnd left → text ≡ given
+pub gave_all : (text given : List ℕ) (left : Option (List ℕ)) → Consumes (Some text) left given → IsAtEnd left → text ≡ given
 gave_all text given None c e = absurd c
 gave_all text given (Some rest) c e = c ∙ ap (λ t. given ++ t) e ∙ append-nil given
 
-gave_some : (text given : List ℕ) (left : Option (List ℕ)) → Consumes (Some text) left given → length given ≤ length text
+pub gave_some : (text given : List ℕ) (left : Option (List ℕ)) → Consumes (Some text) left given → length given ≤ length text
 gave_some text given None c = absurd c
 gave_some text given (Some rest) c = let size = length-append given rest in let same = ap length c in omega (arith, size, same)
 
-no_script : (script : Script) (bad : ℕ × Why) (read : Result Script (ℕ × Why)) → read ≡ Ok script → read ≡ Err bad → ⊥
+pub no_script : (script : Script) (bad : ℕ × Why) (read : Result Script (ℕ × Why)) → read ≡ Ok script → read ≡ Err bad → ⊥
 no_script script bad read a b = cc
 
-one_script : (script other : Script) (read : Result Script (ℕ × Why)) → read ≡ Ok script → read ≡ Ok other → script ≡ other
+pub one_script : (script other : Script) (read : Result Script (ℕ × Why)) → read ≡ Ok script → read ≡ Ok other → script ≡ other
 one_script script other read a b = cc
 
 -- words ask for one thing
@@ -46,7 +46,7 @@ one_class asked class other a b = cc
 -- COMPLETENESS
 
 -- what was read of the whole text is the script
-script_read : (text given : List ℕ) (left : Option (List ℕ)) (script : Script) → Consumes (Some text) left given → IsAtEnd left → script_of text ≡ Ok script → script_of given ≡ Ok script
+pub script_read : (text given : List ℕ) (left : Option (List ℕ)) (script : Script) → Consumes (Some text) left given → IsAtEnd left → script_of text ≡ Ok script → script_of given ≡ Ok script
 script_read text given left script c whole is = ap script_of (sym (gave_all text given left c whole)) ∙ is
 
 -- what was printed belongs to the script
@@ -106,11 +106,11 @@ decode_complete words text given left held held' faults faults' class frames com
 good_words : (words : List (List ℕ)) (command : Command) (status : ℕ) → command_of words ≡ Some command → (status ≡ 4 → ⊥) → (status ≡ 4) ↔ (command_of words ≡ None)
 good_words words command status w other = (λ e. absurd (other e), λ f. absurd (is_none (command_of words) command w f))
 
-is_script : (given : List ℕ) (script : Script) → script_of given ≡ Ok script → IsNoScript given → ⊥
+pub is_script : (given : List ℕ) (script : Script) → script_of given ≡ Ok script → IsNoScript given → ⊥
 is_script given script is bad = no_script script (bad.0, bad.1) (script_of given) is bad.2
 
 -- a script that was run has parameters that agree
-is_agreed : {EndsWith : Script → History → Type 0} {agreed : Agreed} {history : History} (given : List ℕ) (script : Script) → IsRun EndsWith given script agreed history → IsUnagreed given → ⊥
+pub is_agreed : {EndsWith : Script → History → Type 0} {agreed : Agreed} {history : History} (given : List ℕ) (script : Script) → IsRun EndsWith given script agreed history → IsUnagreed given → ⊥
 is_agreed given script run bad =
     let same : script ≡ bad.0 = one_script script bad.0 (script_of given) run.script_is bad.1 in
     bad.2 (subst (λ (x : Script). Agree x.params) same run.agrees)

@@ -4,3 +4,7 @@ pub mod Decode
 pub mod Runs
 pub mod Prepared
 pub mod Command
+pub mod Reading
+pub mod Kept
+pub mod Loads
+pub mod Top

@@ -14,7 +14,7 @@ use std::alloc::Global;
 use un_io::{ReadError, Sink, Source, read_whole, write_whole};
 
 /// The most bytes of input.
-const MOST_INPUT: u64 = 16_777_216;
+pub(crate) const MOST_INPUT: u64 = 16_777_216;
 
 /// Writes a refusal's line, or a front of it: the status stays the refusal's own where the write fails.
 pub(crate) fn tell<O: Sink>(out: &mut O, line: &[u8])

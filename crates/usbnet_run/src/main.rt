@@ -5,17 +5,27 @@ mod command;
 mod decode;
 #[cfg(test)]
 mod decode_tests;
+#[cfg(test)]
+mod gates;
+mod load;
+#[cfg(test)]
+mod main_tests;
 mod prepare;
+mod reading;
+mod run;
 mod serial;
 #[cfg(test)]
 mod tests;
+mod top;
 mod words;
+mod work;
 
-use crate::command::plain_command;
+use crate::top::usbnet_main;
 use std::env;
 use std::io::{self, ErrorKind};
 use std::process::ExitCode;
 use un_io::{StdSink, StdSource};
+use un_share::OpenGate;
 
 /// The status where the words couldn't be had from the system.
 const NO_WORDS: u8 = 10;
@@ -37,5 +47,5 @@ fn main(rt: HostRuntime) -> ExitCode {
     }
     let mut input = StdSource::make(rt.reader());
     let mut out = StdSink::make(io::writer(&rt));
-    ExitCode::from(plain_command(rt.alloc(), &words, &mut input, &mut out))
+    ExitCode::from(usbnet_main(&rt, rt.alloc(), &words, &mut input, &mut out, &OpenGate))
 }

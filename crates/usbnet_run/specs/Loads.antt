@@ -1,0 +1,43 @@
+-- How a load ends, and its line. The line is this project's own.
+use Rattle.std.specs.Prelude.{◌≡◌, ℕ, ◌+◌, List, ◌∷◌, ◌++◌, codes, decimal, Option}
+use Rattle.std.specs.Io.KnownBytes.{Appends}
+use Rattle.un_frame.specs.declared.params.Lane.TheVariants.{Outward, Inward}
+use Rattle.un_io.specs.Io.{Stopped}
+use Rattle.un_journal.specs.History.{History, past}
+use Rattle.un_journal.specs.Fits.{IsDone}
+use Rattle.un_report.specs.declared.tally.Tally.{Tally}
+use Rattle.un_report.specs.Counts.{counts}
+use Rattle.un_script.specs.Load.{load_script}
+use Rattle.usbnet_run.specs.Kept.{IsKept}
+use Rattle.usbnet_run.specs.Refusals.{Tells}
+
+-- a load's packets have 512 bytes
+abbrev pub PACKET : ℕ
+PACKET = 512
+
+-- the line of so many frames
+abbrev pub load_line : ℕ → List ℕ
+load_line count = codes "taken" ++ 32 ∷ decimal count ++ codes " given" ++ 32 ∷ decimal count ++ codes " lost" ++ 32 ∷ decimal 0 ++ codes "\n"
+
+-- the counts of a history's lanes: both together have so many accepted and so many delivered datagrams, and none was lost with a failed or cut transfer, or dropped from a builder
+pub record IsWholeLoad (count : ℕ) (outward inward : Tally) : Type 0 where
+  pub taken : outward.taken + inward.taken ≡ count
+  pub given : outward.given + inward.given ≡ count
+  pub none_failed : outward.failed + inward.failed ≡ 0
+  pub none_cut : outward.cut + inward.cut ≡ 0
+  pub none_dropped : outward.dropped + inward.dropped ≡ 0
+
+abbrev pub IsWhole : ℕ → History → Type 0
+IsWhole count history = IsWholeLoad count (counts PACKET (past Outward history)) (counts PACKET (past Inward history))
+
+-- a history that the workers and the last drain leave of the load's link: no step continues it, and it has the counts of its line
+pub record IsLoad (count : ℕ) (history : History) : Type 0 where
+  pub is_kept : IsKept (load_script count) history
+  pub is_done : IsDone (load_script count) history
+  pub is_whole : IsWhole count history
+
+-- How a load of so many frames ends, by the status: at 0 the sink grew by the line of its history; at 3 by a front of it, and not all; at 1 memory ran out.
+pub data Loads (count : ℕ) (held held' : Option (List ℕ)) (faults faults' : ℕ) : ℕ → Type 0 where
+  loaded : (history : History) → IsLoad count history → Appends held held' (load_line count) → Loads count held held' faults faults' 0
+  load_stopped : (history : History) → IsLoad count history → Stopped held held' (load_line count) → Loads count held held' faults faults' 3
+  wants_memory : Tells held held' faults faults' (codes "no memory\n") → Loads count held held' faults faults' 1

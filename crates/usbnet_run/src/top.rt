@@ -1,0 +1,63 @@
+//! The whole program over a source, a sink and a gate.
+
+ghost use Rattle.std.specs.Prelude.{◌≡◌, ◌≤◌, ℕ, List, map};
+ghost use Rattle.std.specs.String.{string_bytes};
+ghost use Rattle.std.specs.Io.KnownBytes.{Consumes};
+ghost use Rattle.un_io.specs.Io.{Rose};
+ghost use Rattle.usbnet_run.specs.Top.{MainEnds, MainRefusalsAreExact, RunIsComplete};
+
+use crate::command::plain_command;
+use crate::load::load;
+use crate::reading::read_input;
+use crate::run::run;
+use crate::words::{Job, job_of};
+use std::alloc::Global;
+use std::sync::Wait;
+use std::thread::Threads;
+use un_io::{Sink, Source};
+use un_share::Gate;
+
+/// Does the command `run`: reads a script from the source, lets the eleven workers run its link under one turn and drains what they leave, and adds the trace text of the link's one history and the report
+/// to the sink. Does the command `load` with a number of frames from 1 to 65,536: the same with that many generated frames, of which it adds the line `taken N given N lost 0`; it reads nothing. All other words
+/// are those of `plain_command`. The gate hangs on the workers and gets no access to the link.
+///
+/// The statuses are those of `plain_command`. Nothing here says that two workers run at a time, or that the workers end: a call that returns has these clauses, whatever order the seats win the turn in.
+/// All memory is taken before the first byte of output.
+pub fn usbnet_main<R: Threads + Wait + Sync, I: Source, O: Sink, G: Gate + Sync>(
+    rt: &R,
+    alloc: Global,
+    words: &[String],
+    input: &mut I,
+    out: &mut O,
+    gate: &G,
+) -> u8
+    // What the status says.
+    ensures ends { (given : List ℕ) × Consumes (I.left input.old) (I.left input.new) given
+        × MainEnds (map string_bytes words.now) given (I.left input.new) (O.held out.old) (O.held out.new) (O.faults out.old) (O.faults out.new) result }
+
+    // A fault is the source's or the sink's own.
+    ensures read_fault { result ≡ 2 → Rose (I.faults input.old) (I.faults input.new) }
+    ensures write_fault { result ≡ 3 → Rose (O.faults out.old) (O.faults out.new) }
+{
+    match job_of(words) {
+        Job::Run => {
+            let text = match read_input(alloc, input, out) {
+                Ok(text) => text,
+                Err(status) => return status,
+            };
+            run(rt, alloc, out, text, gate)
+        }
+        Job::Load(count) => load(rt, alloc, out, count, gate),
+        Job::Plain => plain_command(alloc, words, input, out),
+    }
+}
+
+/// A run does its work wherever it can.
+pub fn run_is_complete()
+    ensures { RunIsComplete }
+{}
+
+/// Each refusal of the whole program comes exactly where it is due, but for want of memory and a read fault.
+pub fn main_refusals_are_exact()
+    ensures { MainRefusalsAreExact }
+{}

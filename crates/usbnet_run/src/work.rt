@@ -1,0 +1,35 @@
+//! The eleven workers on one link.
+
+ghost use Rattle.std.specs.Prelude.{◌≡◌, [], IfOk};
+ghost use Rattle.un_link.specs.Link.{flights_of};
+ghost use Rattle.usbnet_run.specs.Kept.{IsKept};
+
+use std::alloc::{AllocError, Global};
+use std::sync::Wait;
+use std::thread::Threads;
+use un_link::Link;
+use un_share::{Gate, run_workers};
+use un_turn::Turn;
+
+/// How many workers share the turn.
+const WORKERS: u32 = 11;
+
+/// Lets all workers run a link out of which nothing flies, under one turn, and drains what they leave. Whatever order the seats win the turn in, the link has its script and the one history that was kept
+/// under the turn, extended by the drain. The error is want of memory, and comes before any worker starts.
+pub(crate) fn work<R: Threads + Wait + Sync, G: Gate + Sync>(
+    rt: &R,
+    alloc: Global,
+    link: Link,
+    gate: &G,
+) -> Result<Link, AllocError>
+    requires none_out { flights_of link ≡ [] }
+    ensures script { IfOk result (λ done. done.script ≡ link.script) }
+    ensures kept { IfOk result (λ done. IsKept link.script done.log.history) }
+{
+    let (turn, seat) = Turn::make(alloc, link, WORKERS)?;
+    let seat = run_workers(rt, &turn, seat, gate);
+    let mut link = turn.close(seat);
+    link.holds();
+    link.drain();
+    Ok(link)
+}
