@@ -12,4 +12,6 @@ mod tally;
 mod tests;
 mod writer;
 
+pub use survey::{Survey, go_over};
+pub use tally::{Consumed, Tally};
 pub use writer::write;

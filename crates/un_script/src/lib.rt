@@ -16,6 +16,7 @@ mod why;
 
 pub use law::read_scripts_are_ready;
 pub use load::generate;
+pub use numbers::number;
 pub use reader::read;
 pub use script::Script;
 pub use why::{ScriptError, Why};
