@@ -21,21 +21,21 @@ SCRIPTS = [
 ]
 
 
-def run(words, source, sink):
-    """The seconds and the peak memory in KiB of one run."""
+def run(words, source, sink, wanted=0):
+    """The seconds and the peak memory in KiB of one run, which has to end with the wanted status."""
     with open(source, "rb") as given, open(sink, "wb") as taken:
         begin = time.perf_counter()
         child = subprocess.Popen(words, stdin=given, stdout=taken)
         _, status, usage = os.wait4(child.pid, 0)
         spent = time.perf_counter() - begin
     child.returncode = os.waitstatus_to_exitcode(status)
-    if child.returncode != 0:
+    if child.returncode != wanted:
         sys.exit(f"{words} ended with {child.returncode}")
     return spent, usage.ru_maxrss
 
 
-def best(words, source, sink):
-    runs = [run(words, source, sink) for _ in range(5)]
+def best(words, source, sink, wanted=0):
+    runs = [run(words, source, sink, wanted) for _ in range(5)]
     return min(spent for spent, _ in runs), max(peak for _, peak in runs)
 
 

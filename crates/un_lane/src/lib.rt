@@ -2,8 +2,6 @@
 #![tactic(auto)]
 
 mod path;
-#[cfg(test)]
-mod tests;
 mod write;
 
 pub use path::Path;

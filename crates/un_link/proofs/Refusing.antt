@@ -13,9 +13,11 @@ use Rattle.un_journal.specs.Log.{Log}
 use Rattle.un_journal.specs.Lookup.{phase_of, controls_done, feed_head}
 use Rattle.un_journal.specs.LaneSteps.{Outcome, Writes, Answers, lines_in, answer_in, bare}
 use Rattle.un_journal.specs.Step.{Work, work, offer_head, order_lines, hinders, control_now}
+use Rattle.un_lane.specs.Stands.{Stands}
 use Rattle.un_lane.specs.Way.{Way, Adds}
 use Rattle.un_link.specs.Keeps.{Keeps, Does}
 use Rattle.un_link.specs.Link.{Link, Steps}
+use Rattle.un_link.specs.Requests.{KeepsRequests}
 use Rattle.un_link.proofs.Controlling.{same_steps}
 
 nothing_added : (log : Log) → Adds log log []
@@ -37,7 +39,7 @@ pub spent_does : (script : Script) (phase : Phase) (way : Way) (log : Log) (lane
     → feed_head script lane (past lane log.history) sender ≡ None → Does script phase (Work.Offer lane sender) way way log log Answer.Spent
 spent_does script phase way log lane sender at keeps none =
     idle_does script phase (Work.Offer lane sender) way log Answer.Spent (ap (offer_head script (phase_of script log.history) lane sender (past lane log.history)) none)
-        (subst (λ (l : Lane). Keeps script phase way (past l log.history)) (sym at) keeps)
+    (subst (λ (l : Lane). Keeps script phase way (past l log.history)) (sym at) keeps)
 
 where_true : (b : Bool) (x y : Outcome) → b ≡ true → (if b then x else y) ≡ x
 where_true true x y e = refl
@@ -56,3 +58,12 @@ pub hindered_steps : (link : Link) (due : Due) (forced : Bool) (count : ℕ) →
     → Steps link link (control_now link.script link.log.history due forced) (Answer.InFlight count)
 hindered_steps link due forced count p e low =
     same_steps link _ _ (hindered link.script link.log.history due forced count (subst (λ (i : Phase). count ≡ hinders due.control i (past Outward link.log.history) (past Inward link.log.history)) p e) low)
+
+-- a standing path has each of its requests in one place
+pub requests_kept : (way : Way) (g : History) → Stands way g → KeepsRequests way
+requests_kept way g w = record {
+  tx_in_one = λ n low. let least = w.placed.tx_some n low in let most = w.placed.tx_once n in omega (arith, least, most);
+  rx_in_one = λ n low. let least = w.placed.rx_some n low in let most = w.placed.rx_once n in omega (arith, least, most);
+  tx_all = w.placed.tx_all;
+  rx_all = w.placed.rx_all;
+}

@@ -51,7 +51,7 @@ impl<A: TxEnd + Drop, B: RxEnd + Drop, C: TxEnd + Drop, D: RxEnd + Drop> LinkOve
         let _ = &self.journal;
     }
 
-    /// Each request number of each pool stands in one place, once, and as many requests are in all places together as the pool has.
+    /// Each request of each pool is in exactly one place, and as many are in all places together as the pool has.
     pub fn keeps_requests(&self)
         ensures out { KeepsRequests self.now.out }
         ensures inward { KeepsRequests self.now.inward }
