@@ -7,6 +7,8 @@ mod decode;
 mod decode_tests;
 #[cfg(test)]
 mod gates;
+#[cfg(test)]
+mod link_tests;
 mod load;
 #[cfg(test)]
 mod main_tests;
