@@ -2,7 +2,8 @@
 """Times `usbnet run` beside `usbnet serial` on large scripts, and `usbnet load 65536`.
 
 Needs the proved build (./usbnet --build). Prints, for each script, the best of five times of both commands and their peak memory; and
-then the same of the load. What `run` takes more than `serial` is the price of the turn and of eleven threads.
+then the same of the load. What `run` takes more than `serial` is the price of the turn and of eleven threads. The scripts grow, so that
+the cost for each frame can be compared.
 """
 import os
 import sys

@@ -2,8 +2,8 @@
 """Times the reading of a script of 16 MiB beside a plain hex round trip of the same bytes.
 
 Needs the proved build (./usbnet --build) and coreutils' basenc. The script's last line is refused, so that `usbnet serial` reads all
-of it, keeps every frame, and then runs nothing. Prints the best of five times of the program, and of a round trip of the script's
-bytes through hexadecimal digits (bytes to digits and back to bytes), and the program's peak memory.
+of it, keeps every frame, and then runs nothing. Prints the best of five times of the program and of a round trip of the script's bytes
+through hexadecimal digits (bytes to digits and back to bytes), and the program's peak memory.
 """
 import os
 import sys

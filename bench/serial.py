@@ -1,8 +1,9 @@
 #!/usr/bin/env python3
-"""Times `usbnet serial` on large scripts beside a plain hex round trip of the same bytes.
+"""Times `usbnet serial` on large scripts beside a plain hex round trip of the same frames.
 
-Needs the proved build (./usbnet --build) and coreutils' basenc. Prints, for each script, its size, the best of five times of the
-program and of the round trip (digits to bytes and back to digits), and the program's peak memory.
+Needs the proved build (./usbnet --build) and coreutils' basenc. Prints, for each script, its size and that of the output, the best of
+five times of the program and of the round trip (the frames' digits to bytes and back to digits), and the program's peak memory.
+The scripts grow, so that the cost for each frame can be compared.
 """
 import os
 import subprocess
@@ -35,6 +36,7 @@ def run(words, source, sink, wanted=0):
 
 
 def best(words, source, sink, wanted=0):
+    """The least time and the greatest peak memory of five runs, one after the other."""
     runs = [run(words, source, sink, wanted) for _ in range(5)]
     return min(spent for spent, _ in runs), max(peak for _, peak in runs)
 
