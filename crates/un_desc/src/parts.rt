@@ -96,9 +96,9 @@ fn own_bulk(descriptors: &Descriptors<'_>) -> Bulk
     found
 }
 
-/// The setting of an interface, where its number is this and it has both bulk endpoints.
-fn setting_here(number: u8, descriptor: Descriptor, bulk: Bulk) -> Option<Setting>
-    ensures { result ≡ Rattle.un_desc.specs.Reading.setting_here number descriptor bulk }
+/// The setting of an interface, where its number is this and it has both bulk endpoints among the descriptors that follow it. Only then are these read.
+fn setting_here(number: u8, descriptor: Descriptor, following: &Descriptors<'_>) -> Option<Setting>
+    ensures { result ≡ Rattle.un_desc.specs.Reading.setting_here number descriptor (bulk_of following.now) }
 {
     let Descriptor::AnInterface(interface) = descriptor else {
         return None;
@@ -106,6 +106,7 @@ fn setting_here(number: u8, descriptor: Descriptor, bulk: Bulk) -> Option<Settin
     if interface.number != number {
         return None;
     }
+    let bulk = own_bulk(following);
     Some(Setting {
         setting: interface.setting,
         bulk_in: bulk.bulk_in?,
@@ -120,7 +121,7 @@ pub fn working_setting(descriptors: &Descriptors<'_>, number: u8) -> Option<Sett
 {
     let mut rest = descriptors.again();
     while let Some(descriptor) = rest.next() {
-        let found = setting_here(number, descriptor, own_bulk(&rest));
+        let found = setting_here(number, descriptor, &rest);
         if found.is_some() {
             return found;
         }

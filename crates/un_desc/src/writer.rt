@@ -172,7 +172,8 @@ const COMMUNICATIONS: u8 = 0x02;
 /// The class code of an interface for data (CDC 1.2, 4.5).
 const DATA: u8 = 0x0a;
 
-/// The addresses of the bulk endpoints: IN 1 and OUT 1 (this project's own).
+/// The address of the bulk IN endpoint (this project's own).
 const BULK_IN: u8 = 0x81;
 
+/// The address of the bulk OUT endpoint (this project's own).
 const BULK_OUT: u8 = 0x01;
