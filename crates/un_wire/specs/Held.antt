@@ -1,28 +1,19 @@
 -- What the codecs of the classes keep, and what callers see of it.
-use Rattle.std.specs.Prelude.{◌≡◌, ℕ, ◌<◌, ◌≤◌, length, option_to_list, unwrap_or, true}
-use Rattle.un_frame.specs.declared.params.Class.TheVariants.{Ecm, Eem}
+use Rattle.std.specs.Prelude.{◌≡◌, ℕ, ◌<◌, ◌≤◌, length, option_to_list, unwrap_or, false, true}
+use Rattle.un_frame.specs.Lanes.{builds_blocks}
 use Rattle.un_frame.specs.NtbForm.{block_fits}
 use Rattle.un_frame.specs.Params.{layout_of}
 use Rattle.un_frame.specs.Wire.{Coding}
-use Rattle.un_wire.specs.declared.ecm.EcmWire.TheInside as ecm
-use Rattle.un_wire.specs.declared.eem.EemWire.TheInside as eem
+use Rattle.un_wire.specs.declared.frame.FrameWire.TheInside as frame_wire
 use Rattle.un_ntb.specs.Formats.{class_of, format_of}
 use Rattle.un_wire.specs.declared.ntb.NtbWire.TheInside as ntb_wire
 
--- a codec of ECM: the open transfer has at most one frame, of at most a segment
-abbrev pub ecm_coding : ecm.Inside → Coding
-ecm_coding w = record { params = w.params; sizes = option_to_list w.held; is_open = w.is_open }
+-- a codec of ECM or of EEM: the open transfer has at most one frame, of at most a segment
+abbrev pub frame_coding : frame_wire.Inside → Coding
+frame_coding w = record { params = w.params; sizes = option_to_list w.held; is_open = w.is_open }
 
-pub record IsEcm (w : ecm.Inside) : Type 0 where
-  pub class : w.params.class ≡ Ecm
-  pub fits : unwrap_or w.held 0 ≤ w.params.segment
-
--- a codec of EEM: likewise
-abbrev pub eem_coding : eem.Inside → Coding
-eem_coding w = record { params = w.params; sizes = option_to_list w.held; is_open = w.is_open }
-
-pub record IsEem (w : eem.Inside) : Type 0 where
-  pub class : w.params.class ≡ Eem
+pub record IsFrame (w : frame_wire.Inside) : Type 0 where
+  pub class : builds_blocks w.params.class ≡ false
   pub segment : w.params.segment ≤ 8192
   pub packet : 1 ≤ w.params.packet
   pub fits : unwrap_or w.held 0 ≤ w.params.segment

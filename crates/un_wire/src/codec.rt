@@ -8,8 +8,7 @@ ghost use Rattle.un_frame.specs.Parts.{datagram_of};
 ghost use Rattle.un_frame.specs.Wire.{fault_of};
 
 use crate::cursor::{Cursor, begin};
-use crate::ecm::EcmWire;
-use crate::eem::EemWire;
+use crate::frame::{EcmWire, EemWire};
 use crate::ntb::{Ntb16Wire, Ntb32Wire};
 use crate::parts::Parts;
 use crate::wire::Wire;

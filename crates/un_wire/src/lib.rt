@@ -6,8 +6,7 @@
 
 mod codec;
 mod cursor;
-mod ecm;
-mod eem;
+mod frame;
 mod laws;
 mod ntb;
 mod parts;
@@ -17,8 +16,7 @@ mod wire;
 
 pub use codec::Codec;
 pub use cursor::Cursor;
-pub use ecm::EcmWire;
-pub use eem::EemWire;
+pub use frame::{EcmWire, EemWire, FrameWire};
 pub use laws::{forms_are_read, frames_are_few, open_transfers, parts_are_one, segments_fit};
 pub use ntb::{Ntb16Wire, Ntb32Wire, NtbWire};
 pub use parts::{Parts, read};
