@@ -5,11 +5,11 @@ use Rattle.std.specs.List.{concat}
 use Rattle.un_frame.specs.declared.params.Class.{Class}
 use Rattle.un_frame.specs.declared.params.Class.TheVariants.{Ecm, Eem, Ncm16, Ncm32}
 use Rattle.un_frame.specs.declared.params.Params.{Params}
-use Rattle.un_frame.specs.Eem.{Data, Empty, packet_bytes, eem_form}
+use Rattle.un_frame.specs.Eem.{Data, Empty, packet_bytes}
 use Rattle.un_frame.specs.Ntb.{Format, ntb16, ntb32}
 use Rattle.un_frame.specs.NtbForm.{IsOpenBlock, Layout, block_fits, datagrams_end, ntb_form, open_block}
 use Rattle.un_frame.specs.Params.{layout_of}
-use Rattle.un_frame.specs.Wire.{IsOpen, capacity_as, capacity_of, form, form_as, open_as, open_form}
+use Rattle.un_frame.specs.Wire.{IsOpen, capacity_as, capacity_of, open_as, open_form}
 use Rattle.un_frame.proofs.NtbFormLemmas.{closed_fits_within, length-number_bytes}
 use Rattle.un_frame.proofs.NtbFormReads.{IsWritable, length-block}
 use Rattle.un_eem.specs.Transfer.{data_packets}
@@ -21,10 +21,6 @@ open_ecm p sizes bytes frames is o = o.so_far ∙ ap (λ (class : Class). open_a
 
 pub open_eem : (p : Params) (sizes bytes : List ℕ) (frames : List (List ℕ)) → p.class ≡ Eem → IsOpen p sizes bytes frames → bytes ≡ data_packets frames
 open_eem p sizes bytes frames is o = o.so_far ∙ ap (λ (class : Class). open_as class p frames) is
-
--- and what is written
-pub form_eem : (p : Params) (serial : ℕ) (frames : List (List ℕ)) → p.class ≡ Eem → form p serial frames ≡ eem_form p.packet frames
-form_eem p serial frames is = ap (λ (class : Class). form_as class p serial frames) is
 
 -- the frames of an open transfer that holds one frame at most
 pub length-concat_held : (held : Option ℕ) (frames : List (List ℕ)) → map length frames ≡ option_to_list held → length (concat frames) ≡ unwrap_or held 0

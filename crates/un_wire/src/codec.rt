@@ -10,7 +10,7 @@ ghost use Rattle.un_frame.specs.Wire.{fault_of};
 use crate::cursor::{Cursor, begin};
 use crate::frame::{EcmWire, EemWire};
 use crate::ntb::{Ntb16Wire, Ntb32Wire};
-use crate::parts::Parts;
+use crate::parts::{Parts, read};
 use crate::wire::Wire;
 use std::alloc::{AllocError, Global};
 use un_frame::{Class, Fault, Lane, Params};
@@ -163,11 +163,6 @@ impl Wire for Codec {
     }
 
     fn read<'a>(&self, bytes: &'a [u8]) -> Result<Parts<'a>, Fault> {
-        match self {
-            Codec::Ecm(codec) => codec.read(bytes),
-            Codec::Eem(codec) => codec.read(bytes),
-            Codec::Ncm16(codec) => codec.read(bytes),
-            Codec::Ncm32(codec) => codec.read(bytes),
-        }
+        read(self.class(), bytes)
     }
 }

@@ -80,22 +80,18 @@ impl<const WIDTH: usize> Wire for NtbWire<WIDTH> {
     }
 
     fn fits(&self, length: u32) -> bool {
-        let _params = &self.params;
         self.writer.fits(length)
     }
 
     fn start(&mut self, request: &mut Request) {
-        let _params = &self.params;
         self.writer.start(request);
     }
 
     fn append(&mut self, request: &mut Request, frame: &[u8]) {
-        let _params = &self.params;
         self.writer.append(request, frame);
     }
 
     fn close(&mut self, request: &mut Request, serial: u64) {
-        let _params = &self.params;
         self.writer.close(request, serial);
     }
 
