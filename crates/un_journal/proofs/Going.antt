@@ -1,13 +1,15 @@
--- What actions, rounds and the drain leave is legal.
+-- What actions, rounds and the drain leave is legal, and an action that is refused leaves the history as it was.
 use Rattle.std.proofs.Common.{◌≡◌, ℕ, zero, suc, Bool, true, false, List, [], ◌∷◌, ◌++◌, refl, subst, append_assoc, append-nil}
 use Rattle.un_frame.specs.declared.params.Lane.{Lane}
 use Rattle.un_journal.specs.declared.actions.Action.{Action}
+use Rattle.un_journal.specs.declared.actions.Answer.{Answer}
 use Rattle.un_journal.specs.Script.{Script}
 use Rattle.un_journal.specs.History.{History}
-use Rattle.un_journal.specs.LaneSteps.{Outcome, Writes, Answers, lines_in}
-use Rattle.un_journal.specs.Step.{Work, work, move_after, step_of}
+use Rattle.un_journal.specs.LaneSteps.{Outcome, Writes, Answers, lines_in, answer_in}
+use Rattle.un_journal.specs.Step.{Work, work, move_after, outcome, step_of}
 use Rattle.un_journal.specs.Fits.{Act, Works, Controls, Legal, goes_on, act_outcome}
 use Rattle.un_journal.specs.Drain.{run, round, drain_in, drain, same_length}
+use Rattle.un_journal.specs.Laws.{RefusalsWriteNothing}
 use Rattle.un_journal.proofs.Complete.{outcome_fits}
 
 legal_outcome : (script : Script) (h : History) (act : Act) (o : Outcome) → Legal script h → act_outcome script h act ≡ o → Legal script (h ++ lines_in o)
@@ -39,6 +41,13 @@ legal_step script h Action.Settle legal = legal_act script h (Works Work.Settle)
 pub legal_run : (script : Script) (h : History) (actions : List Action) → Legal script h → Legal script (run script h actions)
 legal_run script h [] legal = legal
 legal_run script h (a ∷ rest) legal = legal_run script (h ++ step_of script h a) rest (legal_step script h a legal)
+
+still : (o : Outcome) → (answer_in o ≡ Answer.Did → ⊥) → lines_in o ≡ []
+still (Writes xs) other = absurd (other refl)
+still (Answers a) other = refl
+
+pub refused : RefusalsWriteNothing
+refused script h action other = still (outcome script h action) other
 
 drain_choice : (P : History → Type 0) (a b : Bool) (x y z : History) → P x → P y → P z
     → P (elim a [ false ↦ x | true ↦ elim b [ false ↦ y | true ↦ z ] ])

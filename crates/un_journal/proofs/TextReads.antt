@@ -19,7 +19,7 @@ use Rattle.un_journal.specs.declared.lines.Line.TheVariants.{Took, Refused, Made
 use Rattle.un_journal.specs.History.{Entry, History}
 use Rattle.un_journal.specs.Log.{IsEntry, AreEntries, FitsTypes}
 use Rattle.un_journal.specs.Text.{lane_word, verdict_word, kind_word, flag_word, name_of, words_of, bytes_words, spaced, entry_text, trace}
-use Rattle.un_journal.specs.TextLaw.{EntriesAreRead, HistoriesAreRead}
+use Rattle.un_journal.specs.TextLaw.{EntriesAreRead, TracesAreRead, HistoriesAreRead}
 use Rattle.un_journal.proofs.TextCuts.{is_plain, are_plain, both, tail_of, cut_tail, cut_words, spaced_append, decimal_plain, hex_plain}
 
 -- FROM WORDS
@@ -262,30 +262,45 @@ no_end (Cleared l) h = not_end (codes "cleared") refl h
 no_end (Control c f) h = not_end (codes "did") refl h
 no_end (Settled t1 r1 t2 r2) h = not_end (codes "settled") refl h
 
--- the line "end" begins no entry's text
-pub ends_alone : (f : Entry) (y : List ℕ) → codes "end\n" ≡ entry_text f ++ y → ⊥
-ends_alone f y h =
-    let m = cut_tail (codes "end") (name_of f.0) [] (all_words f) [] y refl (name_plain f.0) (h ∙ shape f y) in
+-- the line "end" begins no entry's text, whatever follows either
+ends_apart : (f : Entry) (x y : List ℕ) → codes "end\n" ++ x ≡ entry_text f ++ y → ⊥
+ends_apart f x y h =
+    let m = cut_tail (codes "end") (name_of f.0) [] (all_words f) x y refl (name_plain f.0) (h ∙ shape f y) in
     no_end f.0 m.0
+
+pub ends_alone : (f : Entry) (y : List ℕ) → codes "end\n" ≡ entry_text f ++ y → ⊥
+ends_alone f y h = ends_apart f [] y h
 
 abbrev pub body : History → List ℕ
 body history = flat_map entry_text history ++ codes "end\n"
-
-bodies : (g h : History) → AreEntries g → AreEntries h → body g ≡ body h → g ≡ h
-bodies [] [] a b e = refl
-bodies [] (f ∷ h) a b e = absurd (ends_alone f (body h) (e ∙ append_assoc (entry_text f) (flat_map entry_text h) (codes "end\n")))
-bodies (f ∷ g) [] a b e = absurd (ends_alone f (body g) (sym e ∙ append_assoc (entry_text f) (flat_map entry_text g) (codes "end\n")))
-bodies (f ∷ g) (k ∷ h) a b e =
-    let m = entries f k (body g) (body h) a.0 b.0
-    (sym (append_assoc (entry_text f) (flat_map entry_text g) (codes "end\n")) ∙ e ∙ append_assoc (entry_text k) (flat_map entry_text h) (codes "end\n")) in
-    two (λ x xs. x ∷ xs) m.0 (bodies g h a.1 b.1 m.1)
 
 pub cancel : (p x y : List ℕ) → p ++ x ≡ p ++ y → x ≡ y
 cancel [] x y e = e
 cancel (c ∷ p) x y e = cancel p x y (let inner : p ++ x ≡ p ++ y = cc in inner)
 
-pub histories : HistoriesAreRead
+-- the texts of a history's entries, the line "end", and a further text
+abbrev behind : History → List ℕ → List ℕ
+behind history x = flat_map entry_text history ++ (codes "end\n" ++ x)
+
+headed : (history : History) (x : List ℕ) → trace history ++ x ≡ codes "trace\n" ++ behind history x
 unfolding trace
-histories g h a b e =
-    bodies g h a b (cancel (codes "trace\n") (body g) (body h)
-    (sym (append_assoc (codes "trace\n") (flat_map entry_text g) (codes "end\n")) ∙ e ∙ append_assoc (codes "trace\n") (flat_map entry_text h) (codes "end\n")))
+headed history x =
+    let head = codes "trace\n" in
+    let lines = flat_map entry_text history in
+    append_assoc (head ++ lines) (codes "end\n") x ∙ append_assoc head lines (codes "end\n" ++ x)
+
+parts : (g h : History) (x y : List ℕ) → AreEntries g → AreEntries h → behind g x ≡ behind h y → (g ≡ h) × (x ≡ y)
+parts [] [] x y a b e = (refl, cancel (codes "end\n") x y e)
+parts [] (f ∷ h) x y a b e = absurd (ends_apart f x (behind h y) (e ∙ append_assoc (entry_text f) (flat_map entry_text h) (codes "end\n" ++ y)))
+parts (f ∷ g) [] x y a b e = absurd (ends_apart f y (behind g x) (sym e ∙ append_assoc (entry_text f) (flat_map entry_text g) (codes "end\n" ++ x)))
+parts (f ∷ g) (k ∷ h) x y a b e =
+    let m = entries f k (behind g x) (behind h y) a.0 b.0
+    (sym (append_assoc (entry_text f) (flat_map entry_text g) (codes "end\n" ++ x)) ∙ e ∙ append_assoc (entry_text k) (flat_map entry_text h) (codes "end\n" ++ y)) in
+    let n = parts g h x y a.1 b.1 m.1 in
+    (two (λ l ls. l ∷ ls) m.0 n.0, n.1)
+
+pub traces : TracesAreRead
+traces g h x y a b e = parts g h x y a b (cancel (codes "trace\n") (behind g x) (behind h y) (sym (headed g x) ∙ e ∙ headed h y))
+
+pub histories : HistoriesAreRead
+histories g h a b e = (traces g h [] [] a b (ap (λ t. t ++ []) e)).0

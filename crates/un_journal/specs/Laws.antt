@@ -6,12 +6,13 @@ use Rattle.un_frame.specs.Params.{AreInRange, Agree}
 use Rattle.un_journal.specs.declared.lines.Line.{Line}
 use Rattle.un_journal.specs.declared.lines.Line.TheVariants.{Settled}
 use Rattle.un_journal.specs.declared.actions.Action.{Action}
+use Rattle.un_journal.specs.declared.actions.Answer.{Answer}
 use Rattle.un_journal.specs.Log.{HasReason, CarriesItsBytes}
 use Rattle.un_journal.specs.Script.{Script, frames_of, tx_size, rx_size}
 use Rattle.un_journal.specs.History.{Entry, History, past, taken, given, made, posts, returned, flies, flown, waits, ended, was_cut, row_from}
 use Rattle.un_journal.specs.Lookup.{datagrams, controls_done, tx_home, rx_home}
 use Rattle.un_journal.specs.LaneSteps.{Writes, lines_in}
-use Rattle.un_journal.specs.Step.{all_home, away, quiet}
+use Rattle.un_journal.specs.Step.{all_home, away, quiet, step_of, answer_of}
 use Rattle.un_journal.specs.Fits.{Act, Fits, Legal, IsDone, act_outcome}
 use Rattle.un_journal.specs.Drain.{run, drain, drain_in, line_bound}
 use Rattle.un_journal.specs.Places.{trues, places, IsRising, IsAllBelow}
@@ -165,6 +166,11 @@ ActsStayLegal = (script : Script) (h : History) (act : Act)
 abbrev pub RunsStayLegal : Type 0
 RunsStayLegal = (script : Script) (h : History) (actions : List Action)
     → Legal script h → Legal script (run script h actions)
+
+-- an action that answers anything but that it was done adds no line
+abbrev pub RefusalsWriteNothing : Type 0
+RefusalsWriteNothing = (script : Script) (h : History) (action : Action)
+    → (answer_of script h action ≡ Answer.Did → ⊥) → step_of script h action ≡ []
 
 -- THE END
 

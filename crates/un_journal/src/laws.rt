@@ -31,6 +31,7 @@ ghost use Rattle.un_journal.specs.Laws.{
   NoneIsAway,
   QuietIsDone,
   ReceiveAddsUp,
+  RefusalsWriteNothing,
   RunsStayLegal,
   SettledIsHome,
   SomeAreAway,
@@ -116,6 +117,11 @@ pub fn one_step()
 pub fn table_is_computed()
     ensures fits { WrittenFits }
     ensures written { FittingIsWritten }
+{}
+
+/// An action whose answer isn't `Did` adds no line to the history.
+pub fn refusals_write_nothing()
+    ensures { RefusalsWriteNothing }
 {}
 
 /// Whatever is done to a link, its history stays legal.

@@ -29,10 +29,10 @@ pub use laws::{
     bytes_are_bounded, census_names_the_place, cut_is_settled, done_is_finished, drain_is_done,
     finished_is_final, given_is_accepted, lines_are_bounded, lines_are_spelled,
     losses_are_licensed, nothing_is_lost, one_place, one_step, plain_words, pools_add_up,
-    settled_is_home, steps_stay_legal, table_is_computed,
+    refusals_write_nothing, settled_is_home, steps_stay_legal, table_is_computed,
 };
 pub use lines::Line;
 pub use machine::{Flight, Machine, Transfer};
-pub use texts::{entries_are_read, histories_are_read};
+pub use texts::{entries_are_read, histories_are_read, traces_are_read};
 pub use trace_reader::{TraceError, read_trace};
 pub use writer::{put, reserve, write_hex, write_trace};

@@ -1,5 +1,5 @@
 -- What a guard keeps, from the exchange that wins on.
-use Rattle.std.proofs.Common.{◌≡◌, ℕ, ◌+◌, ◌<◌, ◌≤◌, Bool, true, false, List, [], ◌∷◌, ◌++◌, get_or, Option, Some, None, refl, sym, ap, ◌∙◌, subst, arith}
+use Rattle.std.proofs.Common.{◌≡◌, ℕ, ◌+◌, ◌<◌, ◌≤◌, Bool, true, false, List, [], ◌∷◌, ◌++◌, get_or, Option, Some, None, refl, sym, ap, ◌∙◌, subst, inl, inr, arith}
 use Rattle.atomic_table.specs.Table.{rest}
 use Rattle.un_journal.specs.History.{History}
 use Rattle.un_journal.specs.declared.machine.Flight.{Flight}
@@ -9,7 +9,7 @@ use Rattle.un_journal.specs.declared.got.Got.TheVariants.{Part, Cut, Not}
 use Rattle.un_turn.specs.declared.view.View.{View}
 use Rattle.un_journal.specs.Census.{one_if}
 use Rattle.un_journal.specs.Flights.{times, same_flight, Gains, Loses, Takes}
-use Rattle.un_turn.specs.Views.{StartsWith, IsKept}
+use Rattle.un_turn.specs.Views.{StartsWith, MovesOne, IsKept}
 use Rattle.un_turn.specs.Steps.{Sat, Won, entered}
 use Rattle.un_turn.proofs.Flights.{without, same_flight-is, same_flight-refl, times-append, times-without}
 use Rattle.un_turn.proofs.Moves.{starts_refl, starts_trans}
@@ -31,7 +31,7 @@ module _ {M S : Type 0} (script : M → S) (history : M → History) (flights : 
     plan = plan;
     grown = starts_refl (history machine);
     known = v.known;
-    follows = record { same = λ _. refl; count = λ x. refl };
+    follows = record { one = inl refl; same = λ _. refl; count = λ x. refl };
     single = single;
     within = within;
     fresh = λ _. refl;
@@ -58,14 +58,14 @@ module _ {M S : Type 0} (script : M → S) (history : M → History) (flights : 
     grown' : StartsWith (history n) v.entry
     grown' = starts_trans (history n) (history m) v.entry (more, grows) kept.grown
 
-    with_known : (known : List Flight) → (flights n ≡ flights m → known ≡ v.known) → ((x : Flight) → times x known + times x (flights m) ≡ times x v.known + times x (flights n)) → ((x : Flight) → times x (flights n) ≤ 1) → IsKept script history flights v n true
-    with_known known stays follows single = record {
+    with_known : (known : List Flight) → MovesOne (flights m) (flights n) → (flights n ≡ flights m → known ≡ v.known) → ((x : Flight) → times x known + times x (flights m) ≡ times x v.known + times x (flights n)) → ((x : Flight) → times x (flights n) ≤ 1) → IsKept script history flights v n true
+    with_known known one stays follows single = record {
       holds = kept.holds;
       some_share = kept.some_share;
       plan = kept.plan ∙ ap Some (sym same);
       grown = grown';
       known = known;
-      follows = record { same = λ e. stays (e ∙ sym (kept.fresh refl)); count = λ x. omega (arith, follows x, ap (times x) (kept.fresh refl)) };
+      follows = record { one = subst (λ (l : List Flight). MovesOne l (flights n)) (kept.fresh refl) one; same = λ e. stays (e ∙ sym (kept.fresh refl)); count = λ x. omega (arith, follows x, ap (times x) (kept.fresh refl)) };
       single = single;
       within = kept.within;
       fresh = λ e. absurd (cc);
@@ -74,9 +74,9 @@ module _ {M S : Type 0} (script : M → S) (history : M → History) (flights : 
     pub kept_taken : {P : Type 0} (flight_of : P → Flight) (got : Got P) (named : Got Transfer) → Takes flight_of got named (flights m) (flights n) → IsKept script history flights v n true
     kept_taken flight_of (Part p) named takes =
         let r : Flight = flight_of p in
-        with_known (v.known ++ r ∷ []) (λ e. absurd (omega (arith, ap (times r) e, takes.1.0 r, ap one_if (same_flight-refl r)))) (λ x. omega (arith, times-append x v.known (r ∷ []), takes.1.0 x)) (λ x. gains_single r x (flights m) (flights n) takes.1 (kept.single x))
-    kept_taken flight_of Cut named takes = with_known v.known (λ _. refl) (λ x. ap (λ (l : List Flight). times x v.known + times x l) (sym takes.1)) (λ x. subst (λ (l : List Flight). times x l ≤ 1) (sym takes.1) (kept.single x))
-    kept_taken flight_of (Not a) named takes = with_known v.known (λ _. refl) (λ x. ap (λ (l : List Flight). times x v.known + times x l) (sym takes.1)) (λ x. subst (λ (l : List Flight). times x l ≤ 1) (sym takes.1) (kept.single x))
+        with_known (v.known ++ r ∷ []) (inr (inl (r, takes.1))) (λ e. absurd (omega (arith, ap (times r) e, takes.1.0 r, ap one_if (same_flight-refl r)))) (λ x. omega (arith, times-append x v.known (r ∷ []), takes.1.0 x)) (λ x. gains_single r x (flights m) (flights n) takes.1 (kept.single x))
+    kept_taken flight_of Cut named takes = with_known v.known (inl takes.1) (λ _. refl) (λ x. ap (λ (l : List Flight). times x v.known + times x l) (sym takes.1)) (λ x. subst (λ (l : List Flight). times x l ≤ 1) (sym takes.1) (kept.single x))
+    kept_taken flight_of (Not a) named takes = with_known v.known (inl takes.1) (λ _. refl) (λ x. ap (λ (l : List Flight). times x v.known + times x l) (sym takes.1)) (λ x. subst (λ (l : List Flight). times x l ≤ 1) (sym takes.1) (kept.single x))
 
     pub kept_landed : (r : Flight) → 0 < times r v.known → Loses r (flights m) (flights n) → IsKept script history flights v n true
-    kept_landed r knows loses = with_known (without r v.known) (λ e. absurd (omega (arith, ap (times r) e, loses r, ap one_if (same_flight-refl r)))) (λ x. omega (arith, times-without r v.known knows x, loses x)) (λ x. omega (arith, loses x, kept.single x))
+    kept_landed r knows loses = with_known (without r v.known) (inr (inr (r, loses))) (λ e. absurd (omega (arith, ap (times r) e, loses r, ap one_if (same_flight-refl r)))) (λ x. omega (arith, times-without r v.known knows x, loses x)) (λ x. omega (arith, loses x, kept.single x))

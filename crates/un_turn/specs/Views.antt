@@ -1,8 +1,8 @@
 -- Seats and guards as contracts see them, and what they keep (this project's own).
-use Rattle.std.specs.Prelude.{◌≡◌, ℕ, ◌+◌, ◌<◌, ◌≤◌, Bool, true, false, List, ◌++◌, Option, Some}
+use Rattle.std.specs.Prelude.{◌≡◌, ℕ, ◌+◌, ◌<◌, ◌≤◌, ◌⊎◌, Bool, true, false, List, ◌++◌, Option, Some}
 use Rattle.atomic_table.specs.Seated.{TableId}
 use Rattle.un_journal.specs.declared.machine.Flight.{Flight}
-use Rattle.un_journal.specs.Flights.{times}
+use Rattle.un_journal.specs.Flights.{times, Gains, Loses}
 use Rattle.un_journal.specs.History.{History}
 use Rattle.un_turn.specs.declared.view.View.{View}
 
@@ -28,9 +28,14 @@ StartsWith history seen = (more : History) × (history ≡ seen ++ more)
 abbrev pub IsOut : List Flight → List Flight → Type 0
 IsOut known out = (x : Flight) → times x known ≤ times x out
 
--- The known flights have changed as the machine's have: not at all where the machine's are as they were, and else, flight by flight,
--- by one more where the machine has one more and by one less where it has one less.
+-- A list of flights is as it was; or it has one more, which wasn't in it; or it has one less.
+abbrev pub MovesOne : List Flight → List Flight → Type 0
+MovesOne before after = (after ≡ before) ⊎ (((r : Flight) × Gains r before after) ⊎ ((r : Flight) × Loses r before after))
+
+-- The machine's flights have moved by one at most, and the known ones as they have: not at all where the machine's are as they were, and
+-- else, flight by flight, by one more where the machine has one more and by one less where it has one less.
 pub record Follows (before after known known' : List Flight) : Type 0 where
+  pub one : MovesOne before after
   pub same : after ≡ before → known' ≡ known
   pub count : (x : Flight) → times x known' + times x before ≡ times x known + times x after
 

@@ -1,0 +1,5 @@
+use Rattle.un_journal.proofs.Going.{refused}
+use Rattle.un_journal.proofs.laws.refusals_write_nothing.Goals as goal
+
+pub returns : goal.returns
+returns c = refused

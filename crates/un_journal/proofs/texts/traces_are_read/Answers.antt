@@ -1,0 +1,5 @@
+use Rattle.un_journal.proofs.TextReads.{traces}
+use Rattle.un_journal.proofs.texts.traces_are_read.Goals as goal
+
+pub returns : goal.returns
+returns c = traces
