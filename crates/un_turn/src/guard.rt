@@ -1,6 +1,6 @@
 //! Guards: the right to work on the machine.
 
-ghost use Rattle.std.specs.Prelude.{◌≡◌, ◌++◌, ℕ, ◌<◌, true, false};
+ghost use Rattle.std.specs.Prelude.{◌≡◌, ◌++◌, ℕ, ◌<◌, true, false, []};
 ghost use Rattle.un_journal.specs.Flights.{times, Takes, Loses};
 ghost use Rattle.un_journal.specs.Census.{one_if};
 ghost use Rattle.un_turn.specs.Steps.{left};
@@ -85,9 +85,10 @@ impl<M: Machine> Guard<'_, M> {
         self.machine.land_part(done)
     }
 
-    /// Whether the machine has no work left. It is no call.
+    /// Whether the machine has no work left; no flight is out of such a machine. It is no call.
     pub fn finished(&self) -> bool
         ensures answer { result ≡ M.is_finished (M.script self.now.machine) (M.history self.now.machine) }
+        ensures none_out { result ≡ true → M.flights self.now.machine ≡ [] }
     {
         self.machine.finished()
     }
