@@ -90,6 +90,7 @@ impl<M: Machine> Turn<M> {
         ensures view { (v : _) × LostMore seat.view v × (result.view ≡ entered v (M.history result.machine) (M.flights result.machine)) }
         ensures fresh { (seat.view.script ≡ Some (M.script result.machine)) × StartsWith (M.history result.machine) seat.view.seen }
         ensures out { IsOut seat.view.known (M.flights result.machine) }
+        ensures number { result.id ≡ seat.id }
     {
         let mut waiting = seat;
         for _ in rt.forever() {
@@ -111,6 +112,7 @@ impl<M: Machine> Turn<M> {
         ensures turn { (result.0.turn ≡ self.now) × (result.1.turn ≡ self.now) }
         ensures kept { result.0.view ≡ split_left shares seat.view }
         ensures given { result.1.view ≡ split_right shares seat.view }
+        ensures number { result.0.id ≡ seat.id }
     {
         let Seat { mut token } = seat;
         let other = self.cut::<Brand>(&mut token, shares);
@@ -118,13 +120,14 @@ impl<M: Machine> Turn<M> {
     }
 
     /// One seat of two, of which the right one knows no flight. It has seen the longer of the two histories, which begins with the
-    /// other, and has the shares, the calls and the losses of both.
+    /// other, and has the shares, the calls and the losses of both. It is the left seat, by its number.
     pub fn join(&self, left: Seat<M>, right: Seat<M>) -> Seat<M>
         requires turn { (left.turn ≡ self.now) × (right.turn ≡ self.now) }
         requires none_known { right.view.known ≡ [] }
         ensures turn { result.turn ≡ self.now }
         ensures view { result.view ≡ joined left.view right.view }
         ensures longer { StartsWith result.view.seen left.view.seen × StartsWith result.view.seen right.view.seen }
+        ensures number { result.id ≡ left.id }
     {
         let Seat { mut token } = left;
         let Seat { token: other } = right;
@@ -168,7 +171,7 @@ impl<M: Machine> Turn<M> {
         requires pick { N.amount ≡ _shares }
         requires away { (token.old.me.1 ≡ []) × (token.old.me.0.holds ≡ false) }
         requires shares { (0 < _shares) × (_shares < token.old.me.0.shares) }
-        ensures turn { (token.new.table_id ≡ token.old.table_id) × (result.table_id ≡ token.old.table_id) }
+        ensures turn { (token.new.table_id ≡ token.old.table_id) × (token.new.id ≡ token.old.id) × (result.table_id ≡ token.old.table_id) }
         ensures kept { token.new.me ≡ (split_left _shares token.old.me.0, []) }
         ensures given { result.me ≡ (split_right _shares token.old.me.0, []) }
     {
