@@ -1,10 +1,11 @@
 //! The gadget's two ends.
 #![tactic(auto)]
 
-mod rx;
 #[cfg(test)]
 mod tests;
 mod tx;
 
-pub use rx::GadRx;
 pub use tx::GadTx;
+
+/// Receives from the host, with `rx_out` requests. Each of them stands in one place at most.
+pub type GadRx = un_receive::LaneRx<un_receive::Outward>;

@@ -1,12 +1,11 @@
 //! The host's two ends.
 #![tactic(auto)]
 
-mod rx;
-#[cfg(test)]
-mod rx_tests;
 #[cfg(test)]
 mod tests;
 mod tx;
 
-pub use rx::HostRx;
 pub use tx::HostTx;
+
+/// Receives from the gadget, with `rx_in` requests. Each of them stands in one place at most.
+pub type HostRx = un_receive::LaneRx<un_receive::Inward>;

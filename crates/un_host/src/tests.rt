@@ -1,15 +1,15 @@
-//! A frame from its offer until its request is home again, and one that is deferred.
+//! A frame from its offer until its request is home again, one that is deferred, and the lane of the receiving end.
 
 ghost use Rattle.std.specs.Prelude.{◌≡◌};
 ghost use Rattle.un_frame.specs.Params.{Agree, AreInRange};
 ghost use Rattle.un_frame.specs.declared.params.Class.TheVariants.{Ecm};
 
-use crate::HostTx;
+use crate::{HostRx, HostTx};
 use std::test::Fail;
-use un_endpoint::{Built, Ticked, TxEnd};
+use un_endpoint::{Built, RxEnd, Ticked, TxEnd};
 use un_frame::{Class, Params};
 
-/// The parameters of a link of ECM with one request in each pool.
+/// The parameters of a link of ECM with two receive requests inward and one request in each other pool.
 fn params() -> Params
     ensures in_range { AreInRange result }
     ensures agree { Agree result }
@@ -28,7 +28,7 @@ fn params() -> Params
         tx_out: 1,
         rx_out: 1,
         tx_in: 1,
-        rx_in: 1,
+        rx_in: 2,
     }
 }
 
@@ -60,5 +60,12 @@ fn a_transfer_is_deferred(rt: HostRuntime) -> Result<(), Fail> {
     assert_eq!(rt; (end.deferred(), end.tx_census(4)), (1, (0, 0, 1)));
     let next = end.next_deferred().ok_or("none is deferred")?;
     assert_eq!(rt; (next.serial(), end.deferred()), (0, 0));
+    Ok(())
+}
+
+#[test]
+fn it_receives_inward(rt: HostRuntime) -> Result<(), Fail> {
+    let end = HostRx::make(rt.alloc(), &params())?;
+    assert_eq!(rt; (end.capacity(), end.home(), end.arrived()), (1514, 2, 0));
     Ok(())
 }

@@ -22,7 +22,7 @@ none_now None e = refl
 none_now (Some x) e = absurd (cc)
 
 -- an end with another pool
-module _ (end : Inside) (k : IsLaneRx end) where
+module _ {L : Type 0} (end : Inside L) (k : IsLaneRx end) where
   pub refilled : (pool : Store) (answer : Option Buffer)
       → IfSome answer (λ r. (r ≡ blank r.number end.pool.capacity) × (r.number < end.pool.count) × (end.pool ≡ record pool { home = pool.home ++ r.number ∷ [] }) × IsOut pool r)
       → IfNone answer ((end.pool.home ≡ []) × (pool ≡ end.pool)) → IsLaneRx (record end { pool = pool })
@@ -74,7 +74,7 @@ module _ (end : Inside) (k : IsLaneRx end) where
     finishes pool is_home = rw is_home (record { sound = home_sound (record (receiver_in end) { current = None }) current.request away sound; reading = tt; room = k.room })
 
 -- the part at the cursor is the next datagram
-pub lends : (end : Inside) (current : Current) (part : List ℕ) → IsLaneRx end → end.current ≡ Some current
+pub lends : {L : Type 0} (end : Inside L) (current : Current) (part : List ℕ) → IsLaneRx end → end.current ≡ Some current
     → part ≡ datagram_of (coding_of end.codec).params.class current.request.bytes (part_index (coding_of end.codec).params.class current.request.bytes current.cursor) → IsLent (receiver_in end) current.next part
 lends end current part k is part_is =
     let class = (coding_of end.codec).params.class in
@@ -84,8 +84,8 @@ lends end current part k is part_is =
     record { opened = record { request = current.request; next = current.next }; is_current = ap opened_of is; number_is = refl; bytes_are = part_is ∙ ap (datagram_of class current.request.bytes) index }
 
 -- a new end
-pub started : (lane : Lane) (params : Params) (codec : Codec) (size capacity : ℕ) (pool : Store) (arrived : Row) → coding_of codec ≡ fresh params → size ≡ rx_size lane params → capacity ≡ capacity_of (coding_of codec).params
-    → pool ≡ record { count = size; capacity = capacity; home = upto size } → arrived ≡ no_requests size → IsLaneRx (record { codec = codec; pool = pool; arrived = arrived; current = None })
+pub started : {L : Type 0} (lane : Lane) (params : Params) (codec : Codec) (size capacity : ℕ) (pool : Store) (arrived : Row) → coding_of codec ≡ fresh params → size ≡ rx_size lane params → capacity ≡ capacity_of (coding_of codec).params
+    → pool ≡ record { count = size; capacity = capacity; home = upto size } → arrived ≡ no_requests size → IsLaneRx {L = L} (record { codec = codec; pool = pool; arrived = arrived; current = None; lane = record {} })
 started lane params codec size capacity pool arrived coding_is size_is capacity_is pool_is arrived_is =
     let params_are : (coding_of codec).params ≡ params = ap (λ (c : Coding). c.params) coding_is in
     let capacity_too : capacity ≡ capacity_of params = capacity_is ∙ ap capacity_of params_are in

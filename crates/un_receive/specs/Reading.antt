@@ -12,7 +12,7 @@ abbrev pub opened_of : Option Current → Option Opened
 opened_of None = None
 opened_of (Some current) = Some (record { request = current.request; next = current.next })
 
-abbrev pub receiver_in : Inside → Receiver
+abbrev pub receiver_in : {L : Type 0} → Inside L → Receiver
 receiver_in end = record {
   params = (coding_of end.codec).params;
   size = end.pool.count;
@@ -35,7 +35,7 @@ IsReadingIf class None = Unit {0}
 IsReadingIf class (Some current) = IsReading class current
 
 -- there is room for each arrived request
-pub record IsLaneRx (end : Inside) : Type 0 where
+pub record IsLaneRx {L : Type 0} (end : Inside L) : Type 0 where
   pub sound : IsSoundRx (receiver_in end)
   pub reading : IsReadingIf (coding_of end.codec).params.class end.current
   pub room : end.arrived.room ≡ end.pool.count

@@ -9,8 +9,9 @@ ghost use Rattle.un_wire.specs.Cursors.{IsAt, part_index};
 ghost use Rattle.un_frame.specs.Parts.{ReadsAs};
 ghost use Rattle.un_receive.specs.Rx.{fresh_rx, rx_size};
 
+use crate::lane::OnLane;
 use std::alloc::{AllocError, Global};
-use std::marker::Model;
+use std::marker::{Model, PhantomData};
 use un_endpoint::RxEnd;
 use un_ends::Requests;
 use un_frame::{Lane, Params};
@@ -25,17 +26,18 @@ pub(crate) struct Current {
     next: u64,
 }
 
-/// The receiving end of a lane (this project's own): the pool of its requests, the list of the arrived ones, and the current one with a cursor over
+/// The receiving end of the lane that `L` names (this project's own): the pool of its requests, the list of the arrived ones, and the current one with a cursor over
 /// its parts. Each of its requests stands in one place at most. It has no bytes but those of its requests: a datagram is lent from the request that it came in.
 #[derive(Drop)]
-pub struct LaneRx {
+pub struct LaneRx<L> {
     codec: Codec,
     pool: Pool,
     arrived: Requests,
     current: Option<Current>,
+    lane: PhantomData<L>,
 }
 
-impl Model for LaneRx {
+impl<L> Model for LaneRx<L> {
     ghost use Rattle.un_endpoint.specs.Ends.{Receiver};
 
     ghost Value = { Receiver };
@@ -47,15 +49,15 @@ impl Model for LaneRx {
     ghost invariant = { IsLaneRx };
 }
 
-impl LaneRx {
-    /// An end with as many requests as the parameters say for its lane, `rx_in` or `rx_out`, all home. It takes the memory for all of them and for the list; an error is want of memory.
-    pub fn make(alloc: Global, lane: Lane, params: &Params) -> Result<LaneRx, AllocError>
+impl<L: OnLane> LaneRx<L> {
+    /// An end with as many requests as the parameters say for its lane, `rx_out` or `rx_in`, all home. It takes the memory for all of them and for the list; an error is want of memory.
+    pub fn make(alloc: Global, params: &Params) -> Result<LaneRx<L>, AllocError>
         requires in_range { AreInRange params.now }
         requires agree { Agree params.now }
-        ensures { IfOk result (λ end. end ≡ fresh_rx lane params.now) }
+        ensures { IfOk result (λ end. end ≡ fresh_rx L.LANE params.now) }
     {
         let codec = Codec::make(alloc, params)?;
-        let size = size_of(lane, params);
+        let size = size_of(L::LANE, params);
         let pool = Pool::make(alloc, size, codec.capacity())?;
         let arrived = Requests::make(alloc, size)?;
         Ok(LaneRx {
@@ -63,6 +65,7 @@ impl LaneRx {
             pool,
             arrived,
             current: None,
+            lane: PhantomData,
         })
     }
 
@@ -75,7 +78,7 @@ impl LaneRx {
     }
 }
 
-impl RxEnd for LaneRx {
+impl<L> RxEnd for LaneRx<L> {
     ghost receiver = { λ end. end };
 
     fn capacity(&self) -> u32 {

@@ -3,7 +3,7 @@ use Rattle.un_receive.proofs.EndLemmas.{current_out, finishes}
 use Rattle.un_receive.proofs.receiver.LaneRxRxEnd.advance.Goals as goal
 
 pub put-requires : goal.put-requires
-put-requires c = current_out c.self.inside c.self.invariant c.in-Some.current (sym c.in-Some.ensures.value)
+put-requires g c = current_out c.self.inside c.self.invariant c.in-Some.current (sym c.in-Some.ensures.value)
 
 pub invariant_of-self : goal.invariant_of-self
-invariant_of-self c = rw c.take.ensures.after (finishes c.self.inside c.self.invariant c.in-Some.current (sym c.in-Some.ensures.value) c.put.new.self c.put.ensures)
+invariant_of-self g c = rw c.take.ensures.after (finishes c.self.inside c.self.invariant c.in-Some.current (sym c.in-Some.ensures.value) c.put.new.self c.put.ensures)

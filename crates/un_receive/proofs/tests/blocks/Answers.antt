@@ -1,6 +1,6 @@
 use Rattle.std.proofs.Common.{refl, arith}
 use Rattle.un_frame.specs.NtbForm.{least_place, least_multiple}
-use Rattle.un_host.proofs.rx_tests.params.Goals as goal
+use Rattle.un_receive.proofs.tests.blocks.Goals as goal
 
 pub returns-clause-agree : goal.returns-clause-agree
 unfolding least_place least_multiple

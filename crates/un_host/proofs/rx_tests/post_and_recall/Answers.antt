@@ -1,5 +1,0 @@
-use Rattle.un_receive.proofs.RxLemmas.{refilled_away}
-use Rattle.un_host.proofs.rx_tests.post_and_recall.Goals as goal
-
-pub give_back-requires : goal.give_back-requires
-give_back-requires c = refilled_away c.args.end.now c.refill.new.self c.in-Some.request c.keeps_each_once.ensures.once c.in-Some.ensures.some
