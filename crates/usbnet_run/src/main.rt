@@ -6,6 +6,8 @@ mod decode;
 #[cfg(test)]
 mod decode_tests;
 #[cfg(test)]
+mod failing_tests;
+#[cfg(test)]
 mod gates;
 #[cfg(test)]
 mod link_tests;

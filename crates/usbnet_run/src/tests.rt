@@ -27,7 +27,7 @@ pub(crate) fn filled(alloc: Global, pieces: &[Piece]) -> Result<Vec<u8>, AllocEr
 }
 
 /// A script of one frame of 60 bytes.
-fn small(alloc: Global) -> Result<Vec<u8>, AllocError> {
+pub(crate) fn small(alloc: Global) -> Result<Vec<u8>, AllocError> {
     filled(alloc, &[(b"class ecm\nrequests 1 1 1 1\nout 0 ", 60)])
 }
 
