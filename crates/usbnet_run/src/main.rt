@@ -1,6 +1,8 @@
 //! The program: the words after its name are a command over standard input and output.
 #![tactic(auto)]
 
+#[cfg(test)]
+mod builder_tests;
 mod command;
 mod decode;
 #[cfg(test)]
