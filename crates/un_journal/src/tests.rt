@@ -1,7 +1,7 @@
 //! A small history and its text, and a write that fails in mid-stream.
 
 use super::*;
-use std::alloc::Global;
+use std::alloc::{AllocError, Global};
 use std::test::Fail;
 use un_frame::Lane;
 use un_io::{MemSink, WriteFault};
@@ -48,6 +48,82 @@ fn each_kind_of_line_is_read_back(rt: HostRuntime) -> Result<(), Fail> {
     let mut sink = MemSink::make(rt.alloc(), 999, 999, Vec::new(rt.alloc()))?;
     assert_eq!(rt; write_trace(&mut sink, &journal), Ok(()));
     assert_eq!(rt; sink.held(), EACH_KIND);
+    Ok(())
+}
+
+/// The trace of one frame on its way outward.
+const ONE_FRAME: &[u8] = b"trace\nposted out\nposted in\ntook out 0\nmade out 0 0 1 \
+020000000002020000000001080000000000000000000000000000000000000000000000000000000000000000000000000000000000000000000000\n\
+flying out 0\nlanded out 0\ntxhome out 0\nopened out 0\ngave out 0 \
+020000000002020000000001080000000000000000000000000000000000000000000000000000000000000000000000000000000000000000000000\n\
+posted out\nend\n";
+
+/// The bytes of that frame.
+fn sent(alloc: Global) -> Result<Vec<u8>, AllocError> {
+    let mut frame = vec![in alloc; 0u8; 60]?;
+    frame[..14].copy_from_slice(&[2, 0, 0, 0, 0, 2, 2, 0, 0, 0, 0, 1, 8, 0]);
+    Ok(frame)
+}
+
+/// The lines of its trace.
+const SENT: [Line; 10] = [
+    Line::Posted {
+        lane: Lane::Outward,
+    },
+    Line::Posted { lane: Lane::Inward },
+    Line::Took {
+        lane: Lane::Outward,
+        sender: 0,
+    },
+    Line::Made {
+        lane: Lane::Outward,
+        serial: 0,
+        from: 0,
+        to: 1,
+    },
+    Line::Flying {
+        lane: Lane::Outward,
+        serial: 0,
+    },
+    Line::Landed {
+        lane: Lane::Outward,
+        serial: 0,
+    },
+    Line::TxHome {
+        lane: Lane::Outward,
+        serial: 0,
+    },
+    Line::Opened {
+        lane: Lane::Outward,
+        serial: 0,
+    },
+    Line::Gave {
+        lane: Lane::Outward,
+        number: 0,
+    },
+    Line::Posted {
+        lane: Lane::Outward,
+    },
+];
+
+/// Whether a journal has these lines, with the frame's bytes where a transfer is made and where a frame is given.
+fn has_sent(journal: &Journal, frame: &[u8]) -> bool {
+    let mut same = true;
+    for index in 0..journal.len().min(10) {
+        let bytes = match index {
+            3 | 8 => frame,
+            _ => &[],
+        };
+        same = same && journal.line(index) == SENT[index as usize] && journal.bytes(index) == bytes;
+    }
+    same && journal.len() == 10
+}
+
+#[test]
+fn the_lines_of_a_run_are_read_back(rt: HostRuntime) -> Result<(), Fail> {
+    let journal = read_trace(rt.alloc(), ONE_FRAME)?;
+    let frame = sent(rt.alloc())?;
+    assert!(rt; has_sent(&journal, &frame));
     Ok(())
 }
 

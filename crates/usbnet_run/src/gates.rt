@@ -18,7 +18,7 @@ fn wait_for(number: &AtomicU64, least: u64) {
     }
 }
 
-/// How many turns the workers of one lane have reached, and whether a flight of it was in hand.
+/// How many turns the workers of one lane have reached, and how often a flight of it was in hand.
 #[derive(Drop)]
 pub(crate) struct Reached {
     sender: AtomicU64,
@@ -52,6 +52,13 @@ impl Reached {
         }
     }
 
+    /// Notes that a completion has a flight in hand.
+    fn note_holding(&self, actor: u32) {
+        if actor == 6 {
+            self.holding.fetch_add(1, Ordering::SeqCst);
+        }
+    }
+
     /// Waits until two frames were offered outward, and the gadget has posted a request.
     fn wait_for_two(&self) {
         wait_for(&self.sender, 4);
@@ -59,21 +66,64 @@ impl Reached {
     }
 }
 
-/// The first flight takes off after two offers, and the third comes after its landing.
+/// What stands for a number of calls before it is noted.
+const NOT_NOTED: u64 = u64::MAX;
+
+/// The first flight takes off after two offers, and the third comes after its landing. Notes how often the outward completion had a flight in hand before each of the two turns after its first.
 #[derive(Drop)]
-pub(crate) struct LandsFirst(pub(crate) Reached);
+pub(crate) struct LandsFirst {
+    reached: Reached,
+    before_second: AtomicU64,
+    before_third: AtomicU64,
+}
+
+impl LandsFirst {
+    /// Nothing was reached.
+    pub(crate) fn none() -> LandsFirst {
+        LandsFirst {
+            reached: Reached::none(),
+            before_second: AtomicU64::new(NOT_NOTED),
+            before_third: AtomicU64::new(NOT_NOTED),
+        }
+    }
+
+    /// How often the outward completion had a flight in hand when its second turn first came, and when its third did. A flight that lands in a turn of its own and is copied before it makes both 1.
+    pub(crate) fn held_before(&self) -> (u64, u64) {
+        (
+            self.before_second.load(Ordering::SeqCst),
+            self.before_third.load(Ordering::SeqCst),
+        )
+    }
+
+    /// Notes the number of flights so far, where none was noted. One worker alone calls this.
+    fn note_held(&self, held: &AtomicU64) {
+        if held.load(Ordering::SeqCst) == NOT_NOTED {
+            held.store(
+                self.reached.holding.load(Ordering::SeqCst),
+                Ordering::SeqCst,
+            );
+        }
+    }
+}
 
 impl Gate for LandsFirst {
     fn before<R: Wait>(&self, _rt: &R, actor: u32, turn: u64) {
-        self.0.note(actor, turn);
         match (actor, turn) {
-            (6, 0) => self.0.wait_for_two(),
-            (0, 4) => wait_for(&self.0.completion, 3),
+            (6, 1) => self.note_held(&self.before_second),
+            (6, 2) => self.note_held(&self.before_third),
+            _ => {}
+        }
+        self.reached.note(actor, turn);
+        match (actor, turn) {
+            (6, 0) => self.reached.wait_for_two(),
+            (0, 4) => wait_for(&self.reached.completion, 3),
             _ => {}
         }
     }
 
-    fn holding<R: Wait>(&self, _rt: &R, _actor: u32) {}
+    fn holding<R: Wait>(&self, _rt: &R, actor: u32) {
+        self.reached.note_holding(actor);
+    }
 }
 
 /// While the first flight is in the completion's hands, the third frame is offered, and the timer closes its block.
@@ -95,8 +145,8 @@ impl Gate for FliesMeanwhile {
     }
 
     fn holding<R: Wait>(&self, _rt: &R, actor: u32) {
+        self.0.note_holding(actor);
         if actor == 6 {
-            self.0.holding.store(1, Ordering::SeqCst);
             wait_for(&self.0.timer, 5);
         }
     }

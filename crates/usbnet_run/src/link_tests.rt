@@ -14,7 +14,7 @@ use un_script::read;
 use un_setup::agree;
 
 /// A new link of a script.
-fn linked(alloc: Global, text: &[u8]) -> Result<Link, AllocError>
+pub(crate) fn linked(alloc: Global, text: &[u8]) -> Result<Link, AllocError>
     ensures { IfOk result (λ l. flights_of l ≡ []) }
 {
     let Ok(script) = read(alloc, text) else {
@@ -28,7 +28,7 @@ fn linked(alloc: Global, text: &[u8]) -> Result<Link, AllocError>
 }
 
 /// Whether a link answers these actions, one after another, as told.
-fn answers(link: &mut Link, rows: &[(Action, Answer)]) -> bool
+pub(crate) fn answers(link: &mut Link, rows: &[(Action, Answer)]) -> bool
     ensures { flights_of link.new ≡ flights_of link.old }
 {
     let mut same = true;
@@ -40,7 +40,12 @@ fn answers(link: &mut Link, rows: &[(Action, Answer)]) -> bool
 }
 
 /// Whether the calls ran, and the link's history has this text.
-fn traces(alloc: Global, link: &Link, ran: bool, pieces: &[Piece]) -> Result<bool, AllocError> {
+pub(crate) fn traces(
+    alloc: Global,
+    link: &Link,
+    ran: bool,
+    pieces: &[Piece],
+) -> Result<bool, AllocError> {
     let text = filled(alloc, pieces)?;
     let mut sink = MemSink::make(alloc, 1 << 20, 1 << 20, Vec::new(alloc))?;
     let Ok(()) = write_trace(&mut sink, link.journal()) else {

@@ -1,10 +1,14 @@
 //! The program: the words after its name are a command over standard input and output.
 #![tactic(auto)]
 
+#[cfg(test)]
+mod builder_tests;
 mod command;
 mod decode;
 #[cfg(test)]
 mod decode_tests;
+#[cfg(test)]
+mod failing_tests;
 #[cfg(test)]
 mod gates;
 #[cfg(test)]

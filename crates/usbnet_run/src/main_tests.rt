@@ -36,13 +36,9 @@ fn three(alloc: Global, head: &[u8]) -> Result<Vec<u8>, AllocError> {
 
 /// Whether a line is of the outward lane and no posting.
 fn is_told(line: &[u8]) -> bool {
-    (line.starts_with(b"took out")
-        || line.starts_with(b"made out")
-        || line.starts_with(b"waited out"))
-        || (line.starts_with(b"txhome out")
-            || line.starts_with(b"opened out")
-            || line.starts_with(b"gave out"))
-        || (line.starts_with(b"flying out") || line.starts_with(b"landed out"))
+    let mut words = line.split(|&byte| byte == b' ');
+    let kind = words.next();
+    words.next() == Some(b"out".as_slice()) && kind != Some(b"posted".as_slice())
 }
 
 /// The beginnings, of 14 bytes at most, of a trace's outward lines from the first on that begins with these bytes to the one that begins with those, each with a line feed; without the lines that post requests.
@@ -64,13 +60,9 @@ fn outward(alloc: Global, text: &[u8], from: &[u8], to: &[u8]) -> Result<Vec<u8>
     Ok(lines)
 }
 
-/// Whether three frames were taken and delivered.
-fn gives_three(text: &[u8]) -> bool {
-    text.split(|&byte| byte == b'\n').any(|line| {
-        line == b"lane out taken 3 short 0 long 0 filtered 0 given 3 failed 0 cut 0 dropped 0 left 0 feed 0 transfers 2 packets 2".as_slice()
-            || line
-                == b"lane out taken 3 short 0 long 0 filtered 0 given 3 failed 0 cut 0 dropped 0 left 0 feed 0 transfers 3 packets 3".as_slice()
-    })
+/// Whether a text has this line.
+fn has_line(text: &[u8], wanted: &[u8]) -> bool {
+    text.split(|&byte| byte == b'\n').any(|line| line == wanted)
 }
 
 #[test]
@@ -84,14 +76,19 @@ fn others_act_while_a_flight_is_out(rt: HostRuntime) -> Result<(), Fail> {
         told.as_slice(),
         b"took out 0\nwaited out\nwaited out\nwaited out\nmade out 1 2 3\n".as_slice()
     );
-    assert!(rt; gives_three(sink.held()));
+    assert!(rt;
+        has_line(
+            sink.held(),
+            b"lane out taken 3 short 0 long 0 filtered 0 given 3 failed 0 cut 0 dropped 0 left 0 feed 0 transfers 2 packets 2"
+        )
+    );
     Ok(())
 }
 
 #[test]
 fn a_worker_lands_between_offers(rt: HostRuntime) -> Result<(), Fail> {
     let input = three(rt.alloc(), b"class ecm\nout 0 ")?;
-    let gate = LandsFirst(Reached::none());
+    let gate = LandsFirst::none();
     let (status, sink) = answer(&rt, rt.alloc(), &["run"], input, &[], &gate)?;
     assert_eq!(rt; status, 0);
     let before = outward(rt.alloc(), sink.held(), b"trace", b"landed out 0")?;
@@ -99,7 +96,13 @@ fn a_worker_lands_between_offers(rt: HostRuntime) -> Result<(), Fail> {
         before.as_slice(),
         b"took out 0\nmade out 0 0 1\ntook out 0\nmade out 1 1 2\nflying out 0\n".as_slice()
     );
-    assert!(rt; gives_three(sink.held()));
+    assert!(rt;
+        has_line(
+            sink.held(),
+            b"lane out taken 3 short 0 long 0 filtered 0 given 3 failed 0 cut 0 dropped 0 left 0 feed 0 transfers 3 packets 3"
+        )
+    );
+    assert_eq!(rt; gate.held_before(), (1, 1));
     Ok(())
 }
 

@@ -3,7 +3,7 @@
 use crate::command::plain_command;
 use std::alloc::{AllocError, Global};
 use std::test::Fail;
-use un_io::{MemSink, MemSource};
+use un_io::{MemSink, MemSource, read_whole};
 
 /// The digits of a frame's first 14 bytes: a destination, a source and the type of IPv4. The frame goes on with zero bytes.
 const HEADER: &[u8] = b"0200000000020200000000010800";
@@ -27,7 +27,7 @@ pub(crate) fn filled(alloc: Global, pieces: &[Piece]) -> Result<Vec<u8>, AllocEr
 }
 
 /// A script of one frame of 60 bytes.
-fn small(alloc: Global) -> Result<Vec<u8>, AllocError> {
+pub(crate) fn small(alloc: Global) -> Result<Vec<u8>, AllocError> {
     filled(alloc, &[(b"class ecm\nrequests 1 1 1 1\nout 0 ", 60)])
 }
 
@@ -104,27 +104,63 @@ fn refuses(alloc: Global, script: &[u8], ends: u8, line: &[u8]) -> Result<bool, 
     tells(alloc, Some("serial"), text, &[], &[], ends, line)
 }
 
+/// The trace of a link without frames.
+const POSTED: &[u8] =
+    b"trace\nposted out\nposted in\nposted out\nposted in\nposted out\nposted in\nposted out\nposted in\n\
+posted out\nposted in\nposted out\nposted in\nposted out\nposted in\nposted out\nposted in\nend\n";
+
+/// The lines of a report that tell of the lanes and the phase of a link without frames.
+const NOTHING: &[u8] =
+    b"lane out taken 0 short 0 long 0 filtered 0 given 0 failed 0 cut 0 dropped 0 left 0 feed 0 transfers 0 packets 0\n\
+lane in taken 0 short 0 long 0 filtered 0 given 0 failed 0 cut 0 dropped 0 left 0 feed 0 transfers 0 packets 0\n\
+phase up\n\
+end\n";
+
+/// Whether the link of a script without frames is set up as these lines of its report tell.
+fn sets_up(alloc: Global, script: &[u8], lines: &[u8]) -> Result<bool, AllocError> {
+    let text = filled(alloc, &[(POSTED, 0), (lines, 0), (NOTHING, 0)])?;
+    let script = Vec::from_slice(alloc, script)?;
+    tells(alloc, Some("serial"), script, &[], &[], 0, &text)
+}
+
 #[test]
 fn a_link_without_frames_is_set_up(rt: HostRuntime) -> Result<(), Fail> {
-    let text =
-        b"trace\nposted out\nposted in\nposted out\nposted in\nposted out\nposted in\nposted out\nposted in\n\
-posted out\nposted in\nposted out\nposted in\nposted out\nposted in\nposted out\nposted in\nend\n\
-report\n\
-class ecm\n\
-sizes 1514 512 0\n\
+    let lines = b"report\nclass ecm\nsizes 1514 512 0\n\
 control 800600020000ff00 090250000201008032090400000102060000052400100105240600010d240f0100000000ea05000000\
 0705820310000909040100000a00000009040101020a0000000705810200020007050102000200\n\
 control 0009010000000000 -\n\
 control 21430e0000000000 -\n\
 control 010b010001000000 -\n\
 notify a12a00000000080000389c1c00389c1c\n\
-notify a100010000000000\n\
-lane out taken 0 short 0 long 0 filtered 0 given 0 failed 0 cut 0 dropped 0 left 0 feed 0 transfers 0 packets 0\n\
-lane in taken 0 short 0 long 0 filtered 0 given 0 failed 0 cut 0 dropped 0 left 0 feed 0 transfers 0 packets 0\n\
-phase up\n\
-end\n";
-    let script = Vec::from_slice(rt.alloc(), b"class ecm")?;
-    assert!(rt; tells(rt.alloc(), Some("serial"), script, &[], &[], 0, text)?);
+notify a100010000000000\n";
+    assert!(rt; sets_up(rt.alloc(), b"class ecm", lines)?);
+    Ok(())
+}
+
+#[test]
+fn a_link_of_blocks_agrees_on_them(rt: HostRuntime) -> Result<(), Fail> {
+    let lines = b"report\nclass ncm16\nsizes 1514 512 16384\n\
+control 800600020000ff00 0902560002010080320904000001020d0000052400100105240600010d240f0100000000ea05000000\
+06241a0001090705820310000909040100000a00010009040101020a0001000705810200020007050102000200\n\
+control 0009010000000000 -\n\
+control a180000000001c00 1c000100004000000400000004000000004000000400000004002000\n\
+control 2184000000000000 -\n\
+control 2186000000000400 00400000\n\
+control 2188000000000200 ea05\n\
+control 21430e0000000000 -\n\
+control 010b010001000000 -\n\
+notify a12a00000000080000389c1c00389c1c\n\
+notify a100010000000000\n";
+    assert!(rt; sets_up(rt.alloc(), b"class ncm16", lines)?);
+    Ok(())
+}
+
+#[test]
+fn a_link_of_packets_needs_no_notice(rt: HostRuntime) -> Result<(), Fail> {
+    let lines = b"report\nclass eem\nsizes 1514 512 0\n\
+control 800600020000ff00 0902200001010080320904000002020c07000705810200020007050102000200\n\
+control 0009010000000000 -\n";
+    assert!(rt; sets_up(rt.alloc(), b"class eem", lines)?);
     Ok(())
 }
 
@@ -280,7 +316,8 @@ fn a_suspend_defers_what_is_sent(rt: HostRuntime) -> Result<(), Fail> {
     let alloc = rt.alloc();
     let mut script = repeated(alloc, b"class ecm\nrequests 2 2 2 2", 6)?;
     script.extend_from_slice(b"\nat out 2 suspend\nat out 6 resume")?;
-    let given: &[Piece] = &[(b"\ngave out 1 ", 60), (b"\n", 0)];
+    let first: &[Piece] = &[(b"\ngave out 0 ", 60), (b"\n", 0)];
+    let second: &[Piece] = &[(b"\ngave out 1 ", 60), (b"\n", 0)];
     let asleep: &[Piece] = &[
         (
             b"\ndid 0 0\nrecalled in\nrecalled in\ntook out 0\nmade out 2 2 3 ",
@@ -296,7 +333,13 @@ fn a_suspend_defers_what_is_sent(rt: HostRuntime) -> Result<(), Fail> {
         b"\nlane out taken 6 short 0 long 0 filtered 0 given 6 failed 0 cut 0 dropped 0 left 0 feed 0 transfers 6 packets 6\n",
         0,
     )];
-    assert!(rt; runs(alloc, script, &[given, asleep, made, order, last, report])?);
+    assert!(rt;
+        runs(
+            alloc,
+            script,
+            &[first, second, asleep, made, order, last, report]
+        )?
+    );
     Ok(())
 }
 
@@ -404,24 +447,53 @@ fn a_session_is_counted(rt: HostRuntime) -> Result<(), Fail> {
 
 #[test]
 fn parameters_that_do_not_agree_are_refused(rt: HostRuntime) -> Result<(), Fail> {
-    let rows: [(&[u8], u8, &[u8]); 5] = [
+    let rows: [(&[u8], &[u8]); 3] = [
         (
             b"class ncm16\nsegment 8192\nblock 2048",
-            6,
             b"setup refused no-fit 8192 2048\n",
         ),
-        (b"class ncm16\ndivisor 3", 6, b"setup refused divisor 3 0\n"),
-        (
-            b"class ncm16\nalignment 6",
-            6,
-            b"setup refused alignment 6\n",
-        ),
-        (b"class ecm\nat out 0 resume", 5, b"bad script 2 control\n"),
-        (b"", 5, b"bad script 1 word\n"),
+        (b"class ncm16\ndivisor 3", b"setup refused divisor 3 0\n"),
+        (b"class ncm16\nalignment 6", b"setup refused alignment 6\n"),
     ];
-    for (script, ends, line) in rows {
-        assert!(rt; refuses(rt.alloc(), script, ends, line)?);
+    for (script, line) in rows {
+        assert!(rt; refuses(rt.alloc(), script, 6, line)?);
     }
+    Ok(())
+}
+
+#[test]
+fn what_is_no_script_is_refused(rt: HostRuntime) -> Result<(), Fail> {
+    let rows: [(&[u8], &[u8]); 8] = [
+        (b"", b"bad script 1 word\n"),
+        (b"class wifi", b"bad script 1 word\n"),
+        (b"class ecm\npacket 8\nsegment 60", b"bad script 3 order\n"),
+        (b"class ecm\nsegment 060", b"bad script 2 number\n"),
+        (b"class ecm\nout 0 0200000", b"bad script 2 hex\n"),
+        (b"class ecm\npacket 100", b"bad script 2 range\n"),
+        (b"class ecm\nat out 0 resume", b"bad script 2 control\n"),
+        (
+            b"class ecm\nfault out 0 halt\nfault out 0 proto",
+            b"bad script 3 fault\n",
+        ),
+    ];
+    for (script, line) in rows {
+        assert!(rt; refuses(rt.alloc(), script, 5, line)?);
+    }
+    Ok(())
+}
+
+/// Whether a script is refused at its 257th control.
+fn refuses_a_control_more(alloc: Global) -> Result<bool, AllocError> {
+    let mut script = Vec::from_slice(alloc, b"class ecm")?;
+    for _ in 0..257 {
+        script.extend_from_slice(b"\nat out 0 unlink in")?;
+    }
+    refuses(alloc, &script, 5, b"bad script 258 count\n")
+}
+
+#[test]
+fn a_script_has_256_controls_at_most(rt: HostRuntime) -> Result<(), Fail> {
+    assert!(rt; refuses_a_control_more(rt.alloc())?);
     Ok(())
 }
 
@@ -458,5 +530,22 @@ fn faults_and_bad_words_are_told(rt: HostRuntime) -> Result<(), Fail> {
         )?
     );
     assert!(rt; tells(alloc, Some("serial"), small(alloc)?, &[], &[0], 3, b"")?);
+    Ok(())
+}
+
+/// Whether the source has all of its input left, after no words at all were asked for.
+fn leaves_all(alloc: Global) -> Result<bool, AllocError> {
+    let mut source = MemSource::make(small(alloc)?, ROOM, Vec::new(alloc));
+    let mut sink = MemSink::make(alloc, ROOM, ROOM, Vec::new(alloc))?;
+    let status = plain_command(alloc, &[], &mut source, &mut sink);
+    let Ok(left) = read_whole(alloc, &mut source, ROOM as u64) else {
+        return Ok(false);
+    };
+    Ok(status == 4 && sink.held() == b"bad words\n".as_slice() && left == small(alloc)?)
+}
+
+#[test]
+fn bad_words_leave_the_input_unread(rt: HostRuntime) -> Result<(), Fail> {
+    assert!(rt; leaves_all(rt.alloc())?);
     Ok(())
 }
