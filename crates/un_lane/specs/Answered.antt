@@ -1,9 +1,11 @@
--- What `take` answers.
+-- What a path's calls answer, and that a refusal changes nothing.
 use Rattle.std.specs.Prelude.{◌≡◌, ℕ, [], ◌∷◌, Some}
 use Rattle.un_endpoint.specs.Bus.{Trip, record_of}
 use Rattle.un_journal.specs.declared.lines.Line.{Line}
 use Rattle.un_journal.specs.History.{History, span, made_bytes}
 use Rattle.un_journal.specs.LaneSteps.{Outcome, Writes, Answers, bare}
+use Rattle.un_journal.specs.Log.{Log}
+use Rattle.un_journal.specs.declared.actions.Answer.{Answer}
 use Rattle.un_lane.specs.Way.{Way}
 use Rattle.un_journal.specs.declared.got.Got.{Got}
 use Rattle.un_journal.specs.declared.got.Got.TheVariants.{Part, Cut, Not}
@@ -24,3 +26,16 @@ Answered way g outcome (Not answer) = outcome ≡ Answers answer
 abbrev pub KeepsFlight : Got Trip → Way → Way → Type 0
 KeepsFlight (Part trip) old new = Unit {0}
 KeepsFlight got old new = new.bus.flight ≡ old.bus.flight
+
+-- this holds unless the answer is `Did`, and unless a flight came or a transfer was cut
+abbrev pub UnlessDid : Answer → Type 0 → Type 0
+UnlessDid Answer.Did P = Unit {0}
+UnlessDid answer P = P
+
+abbrev pub UnlessTaken : {X : Type 0} → Got X → Type 0 → Type 0
+UnlessTaken (Not answer) P = P
+UnlessTaken got P = Unit {0}
+
+-- neither the path nor the journal has changed
+abbrev pub IsUnchanged : Way → Way → Log → Log → Type 0
+IsUnchanged old new log log' = (new ≡ old) × (log' ≡ log)

@@ -32,12 +32,13 @@ use Rattle.un_link.specs.Orders.{KeepBoth, Obeys}
 use Rattle.un_link.proofs.Flying.{flight_kept}
 use Rattle.un_link.proofs.Holding.{act_room, act_logged, read_same}
 use Rattle.un_link.proofs.Offers.{pushed}
+use Rattle.un_link.proofs.Unchanged.{always}
 
 -- WHAT ANSWERS
 
 -- a call that only answers leaves the link
 pub same_steps : (link : Link) (outcome : Outcome) (answer : Answer) → outcome ≡ Answers answer → Steps link link outcome answer
-same_steps link outcome answer e = subst (λ o. Steps link link o answer) (sym e) (record { script_is = refl; history_is = sym (append-nil link.log.history); answers = refl; flights_are = refl })
+same_steps link outcome answer e = subst (λ o. Steps link link o answer) (sym e) (record { script_is = refl; history_is = sym (append-nil link.log.history); answers = refl; flights_are = refl; unchanged = always answer (link ≡ link) refl })
 
 pub not_due_is : (script : Script) (h : History) (due : Due) (force : Bool) → slice_get script.controls (controls_done (reverse h)) ≡ Some due → (is_stopping (phase_of script h) || is_leaving (phase_of script h)) ≡ false
     → is_due script h due ≡ false → (force && quiet script h) ≡ false → control script h force ≡ Answers (Answer.NotDue (taken (past due.lane h)) due.want)
@@ -205,6 +206,7 @@ module _ (link : Link) (k : Holds link) (due : Due) (forced : Bool) (head : slic
             (flight_kept Outward link.out (order_part due.control Outward link.done link.phase (past Outward link.log.history)) (past Outward link.log.history) out'.bus.flight k.out_keeps.stands o.out_flight (subst IsSound out_past o.keep.out_keeps.stands.sound))
             ∙ ap (λ fs. lane_flights Outward (past Outward link.log.history) link.out.bus.flight ++ fs)
             (flight_kept Inward link.inward (order_part due.control Inward link.done link.phase (past Inward link.log.history)) (past Inward link.log.history) inward'.bus.flight k.in_keeps.stands o.in_flight (subst IsSound in_past o.keep.in_keeps.stands.sound))));
+        unchanged = tt;
       }
 
 -- a control of the script has a number of 32 bits, and so has the next one

@@ -7,16 +7,21 @@ use Rattle.un_endpoint.specs.declared.record.FlightRecord.{FlightRecord}
 use Rattle.un_journal.specs.declared.actions.Action.{Action}
 use Rattle.un_journal.specs.declared.machine.Flight.{Flight}
 use Rattle.un_journal.specs.Script.{Script}
-use Rattle.un_journal.specs.History.{History, past, made, flies, flying}
+use Rattle.un_journal.specs.History.{History, past, made, flies, flying, given}
 use Rattle.un_journal.specs.Step.{step_of}
-use Rattle.un_journal.specs.Done.{NoneFlies}
+use Rattle.un_journal.specs.Done.{NoneFlies, IsFinished}
+use Rattle.un_journal.specs.Unplug.{AwaitsUnplug, IsPrefix, IsSettledAway}
 use Rattle.un_journal.specs.Drain.{run, round, drain, same_length, line_bound}
 use Rattle.un_journal.specs.Fits.{IsDone}
 use Rattle.un_journal.proofs.Status.{status_of, is_aloft}
 use Rattle.un_journal.proofs.Legal.{fresh}
 use Rattle.un_journal.proofs.Lists.{those_none}
 use Rattle.un_journal.proofs.Bound.{legal_bound}
-use Rattle.un_journal.proofs.Drained.{drain_done, run_extends}
+use Rattle.un_journal.proofs.Drained.{drain_done, drain_extends, run_extends}
+use Rattle.un_journal.proofs.Finished.{done_finished}
+use Rattle.un_journal.proofs.Closed.{cut_off, given_prefix}
+use Rattle.un_journal.proofs.Ranges.{have_pools}
+use Rattle.un_frame.specs.Params.{AreInRange}
 use Rattle.un_journal.proofs.LinkFacts.{drain_after_round, drain_after_control, drain_at_end}
 use Rattle.un_lane.specs.Way.{Way}
 use Rattle.un_lane.specs.Stands.{Stands, flight_serial}
@@ -159,6 +164,23 @@ none_flies link k e = go
 pub drained_done : (start new : Link) → Holds start → flights_of start ≡ [] → new.script ≡ start.script → new.log.history ≡ drain start.script start.log.history → IsDone new.script new.log.history
 drained_done start new k f s h =
     subst (λ i. IsDone i new.log.history) (sym s) (subst (IsDone start.script) (sym h) (drain_done start.script start.log.history k.logged.legal (none_flies start k f)))
+
+-- what it means
+pub drained_finished : (start new : Link) → Holds start → flights_of start ≡ [] → new.script ≡ start.script → new.log.history ≡ drain start.script start.log.history → IsFinished new.script new.log.history
+drained_finished start new k f s h =
+    done_finished new.script new.log.history (have_pools new.script.params (subst (λ (i : Script). AreInRange i.params) (sym s) k.logged.in_range)) (drained_done start new k f s h)
+
+-- an unplug that was the last control is settled
+pub drained_cut : (start new : Link) → Holds start → new.script ≡ start.script → new.log.history ≡ drain start.script start.log.history → AwaitsUnplug start.script start.log.history → IsSettledAway new.script new.log.history
+drained_cut start new k s h w =
+    subst (λ i. IsSettledAway i new.log.history) (sym s)
+    (subst (IsSettledAway start.script) (sym h) (cut_off start.script start.log.history (have_pools start.script.params k.logged.in_range) k.logged.legal w))
+
+-- what was given stays
+pub drained_kept : (start new : Link) → new.log.history ≡ drain start.script start.log.history → (lane : Lane) → IsPrefix (given (past lane start.log.history)) (given (past lane new.log.history))
+drained_kept start new h lane =
+    subst (λ i. IsPrefix (given (past lane start.log.history)) (given (past lane i))) (sym h)
+    (given_prefix start.log.history (drain start.script start.log.history) lane (drain_extends _ start.script start.log.history))
 
 pub drained_history : (start loop new : Link) (b : Bool) → DrainsOn loop new b → b ≡ false → drain loop.script loop.log.history ≡ drain start.script start.log.history → new.log.history ≡ drain start.script start.log.history
 drained_history start loop new b d e same =

@@ -15,17 +15,19 @@ use Rattle.un_journal.specs.History.{History, past, flying, is_empty}
 use Rattle.un_journal.specs.Log.{Log}
 use Rattle.un_journal.specs.declared.actions.Action.{Action}
 use Rattle.un_journal.specs.declared.lines.Line.TheVariants.{Flying, Cut as CutLine}
-use Rattle.un_journal.specs.LaneSteps.{lines_in, bare}
+use Rattle.un_journal.specs.LaneSteps.{Answers, lines_in, bare}
 use Rattle.un_journal.specs.Step.{Work, work, land_from, move_after, outcome, quiet}
 use Rattle.un_journal.specs.Fits.{Works}
 use Rattle.un_journal.proofs.LaneFacts.{lane_of}
 use Rattle.un_lane.specs.Way.{Way}
 use Rattle.un_lane.specs.Stands.{flight_serial}
+use Rattle.un_lane.specs.Answered.{UnlessDid}
 use Rattle.un_link.specs.declared.cursors.Cursors.{Cursors}
 use Rattle.un_link.specs.Keeps.{AreRead, Keeps}
 use Rattle.un_link.specs.Link.{Link, Holds, Steps, flight_in, lane_flights, flights_of}
 use Rattle.un_link.specs.Ends.{is_finished}
 use Rattle.un_link.specs.Flights.{LaneTrip, flight_of, got_outcome, taken_of, taken_lines, landed_lines, Goes, Came, path_flights, TakesOut, BringsBack, across, flights_in, TakesFrom, LandsIn}
+use Rattle.un_link.proofs.Controlling.{same_steps}
 use Rattle.un_link.proofs.Frames.{is_calm, calm_same}
 use Rattle.un_link.proofs.Holding.{act_logged, read_same, is_worked}
 use Rattle.un_link.proofs.SameFlights.{same_flight-is, same_flight-refl}
@@ -241,6 +243,7 @@ moves lane old mid new f answer s h t a s' h' l =
       history_is = h' ∙ (ap (λ m. mid.log.history ++ m) last ∙ (ap (λ m. m ++ then) middle ∙ append_assoc old.log.history first then));
       answers = a;
       flights_are = same_flights lane old new (ends.none_out ∙ sym t.came.none_was) (ends.others ∙ t.others);
+      unchanged = subst (λ r. UnlessDid r (new ≡ old)) (sym a) tt;
     })
 
 -- a queued transfer that is cut: nothing lands after it
@@ -259,7 +262,15 @@ reaps lane old new k s h t =
       history_is = middle ∙ sym (ap (λ m. old.log.history ++ (first ++ m)) last);
       answers = refl;
       flights_are = same_flights lane old new (t.came.none_is ∙ sym t.came.none_was) t.others;
+      unchanged = tt;
     })
+
+-- a take that is refused
+pub stays : (lane : Lane) (old new : Link) (answer : Answer) → new ≡ old → work old.script old.log.history (Work.Take lane) ≡ Answers answer
+    → Steps old new (outcome old.script old.log.history (Action.Move lane)) answer
+stays lane old new answer same e =
+    subst (λ (l : Link). Steps old l (outcome old.script old.log.history (Action.Move lane)) answer) (sym same)
+    (same_steps old _ answer (ap (move_after old.script lane old.log.history) e))
 
 -- QUIET LINKS
 

@@ -19,12 +19,14 @@ use Rattle.un_journal.proofs.Onto.{onto}
 use Rattle.un_journal.proofs.LaneFacts.{lane_of, work_own, past_own, past_other, phase_kept, controls_kept}
 use Rattle.un_journal.proofs.LinkFacts.{act_has_room, act_has_byte_room, bytes_append}
 use Rattle.un_lane.specs.Way.{Way, HasRoom, Adds}
+use Rattle.un_lane.specs.Answered.{UnlessDid}
 use Rattle.un_link.specs.declared.cursors.Cursors.{Cursors}
 use Rattle.un_link.specs.declared.task.Task.{Task}
 use Rattle.un_link.specs.Keeps.{AreRead, Keeps, Does, work_of}
 use Rattle.un_link.specs.Link.{Link, IsLogged, Holds, Steps, lane_flights}
 use Rattle.un_link.proofs.Frames.{is_calm, calm_same}
 use Rattle.un_link.proofs.Flying.{flight_kept}
+use Rattle.un_link.proofs.Unchanged.{out_unchanged, in_unchanged}
 
 -- ROOM
 
@@ -118,9 +120,9 @@ in_holds link w in' log' read' answer k of d r =
 -- WHAT A CALL SAYS
 
 pub out_steps : (link : Link) (w : Work) (out' : Way) (log' : Log) (read' : Cursors) (answer : Answer) → Holds link → lane_of w ≡ Some Outward
-    → Does link.script link.phase w link.out out' link.log log' answer
+    → Does link.script link.phase w link.out out' link.log log' answer → UnlessDid answer (read' ≡ link.out_read)
     → Steps link (record link { log = log'; out = out'; out_read = read' }) (work link.script link.log.history w) answer
-out_steps link w out' log' read' answer k of d =
+out_steps link w out' log' read' answer k of d r =
     let x = is_worked link.script Outward w link.log.history log'.history of d.adds.history_is in
     let at : out'.lane ≡ Outward = d.lane_is ∙ k.out_lane in
     let sound : IsSound (past Outward log'.history) = subst (λ l. IsSound (past l log'.history)) at d.keeps.stands.sound in
@@ -132,12 +134,13 @@ out_steps link w out' log' read' answer k of d =
           ap (λ g. lane_flights Outward (past Outward log'.history) out'.bus.flight ++ lane_flights Inward g link.inward.bus.flight) (x.other Inward refl)
           ∙ ap (λ fs. fs ++ lane_flights Inward (past Inward link.log.history) link.inward.bus.flight)
           (ap (λ g. lane_flights Outward g out'.bus.flight) x.own ∙ flight_kept Outward link.out (lines_in (work link.script link.log.history w)) (past Outward link.log.history) out'.bus.flight k.out_keeps.stands d.flight_is (subst IsSound x.own sound));
+      unchanged = out_unchanged link out' log' read' answer d.unchanged r;
     }
 
 pub in_steps : (link : Link) (w : Work) (in' : Way) (log' : Log) (read' : Cursors) (answer : Answer) → Holds link → lane_of w ≡ Some Inward
-    → Does link.script link.phase w link.inward in' link.log log' answer
+    → Does link.script link.phase w link.inward in' link.log log' answer → UnlessDid answer (read' ≡ link.in_read)
     → Steps link (record link { log = log'; inward = in'; in_read = read' }) (work link.script link.log.history w) answer
-in_steps link w in' log' read' answer k of d =
+in_steps link w in' log' read' answer k of d r =
     let x = is_worked link.script Inward w link.log.history log'.history of d.adds.history_is in
     let at : in'.lane ≡ Inward = d.lane_is ∙ k.in_lane in
     let sound : IsSound (past Inward log'.history) = subst (λ l. IsSound (past l log'.history)) at d.keeps.stands.sound in
@@ -149,6 +152,7 @@ in_steps link w in' log' read' answer k of d =
           ap (λ g. lane_flights Outward g link.out.bus.flight ++ lane_flights Inward (past Inward log'.history) in'.bus.flight) (x.other Outward refl)
           ∙ ap (λ fs. lane_flights Outward (past Outward link.log.history) link.out.bus.flight ++ fs)
           (ap (λ g. lane_flights Inward g in'.bus.flight) x.own ∙ flight_kept Inward link.inward (lines_in (work link.script link.log.history w)) (past Inward link.log.history) in'.bus.flight k.in_keeps.stands d.flight_is (subst IsSound x.own sound));
+      unchanged = in_unchanged link in' log' read' answer d.unchanged r;
     }
 
 -- A LANE'S TASKS

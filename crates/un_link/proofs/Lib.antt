@@ -1,5 +1,6 @@
 pub mod Frames
 pub mod Working
+pub mod Unchanged
 pub mod Flying
 pub mod Holding
 pub mod Offers

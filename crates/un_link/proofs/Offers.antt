@@ -29,6 +29,7 @@ use Rattle.un_journal.proofs.LaneFacts.{work_own, past_own}
 use Rattle.un_journal.proofs.Onto.{onto}
 use Rattle.un_journal.proofs.Steps.{own_past, same_lane_same}
 use Rattle.un_lane.specs.Way.{Way, HasRoom, Adds}
+use Rattle.un_lane.specs.Answered.{UnlessDid, IsUnchanged}
 use Rattle.un_lane.specs.Stands.{Stands}
 use Rattle.un_lane.specs.Phases.{Builds, offered}
 use Rattle.un_link.specs.declared.cursors.Cursors.{Cursors}
@@ -179,9 +180,9 @@ pub accept_does : (script : Script) (phase : Phase) (old new : Way) (log log' : 
     → answer ≡ answer_in (accept old.tx.params old.lane sender (with_frame old.tx frame) (past old.lane log.history))
     → Stands new (past new.lane log'.history)
     → Builds (is_asleep phase) old new (offered old.tx frame answer) (past old.lane log.history) (past new.lane log'.history)
-    → new.bus.flight ≡ old.bus.flight
+    → new.bus.flight ≡ old.bus.flight → UnlessDid answer (IsUnchanged old new log log')
     → Does script phase (Work.Offer old.lane sender) old new log log' answer
-accept_does script phase old new log log' sender frame answer k p w head v a e s l f =
+accept_does script phase old new log log' sender frame answer k p w head v a e s l f u =
     let g = past old.lane log.history in
     let o = accept_is script phase old log.history sender frame k p w head v in
     let adds = subst (λ o. Adds log log' (lines_in o)) (sym o) a in
@@ -204,6 +205,7 @@ accept_does script phase old new log log' sender frame answer k p w head v a e s
             ∙ ap (λ lane. built_frames script lane (past new.lane log'.history)) (sym l.lane_is));
       };
       flight_is = f;
+      unchanged = u;
     }
 
 -- the feeds after an offer that is to be taken: its sender's cursor moves where it was taken
@@ -288,6 +290,7 @@ refuse_does script phase way log log' lane sender frame why at k p w head v n a 
         frames_are = k.frames_are;
       });
       flight_is = refl;
+      unchanged = tt;
     }
 
 pub refuse_reads : (log log' : Log) (c : Cursors) (lane : Lane) (sender : ℕ) (why : Verdict) → log'.history ≡ log.history ++ bare (Refused lane sender why) ∷ [] → AreRead c (past lane log.history) → AreRead (advanced sender c) (past lane log'.history)

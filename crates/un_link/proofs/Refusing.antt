@@ -15,10 +15,12 @@ use Rattle.un_journal.specs.LaneSteps.{Outcome, Writes, Answers, lines_in, answe
 use Rattle.un_journal.specs.Step.{Work, work, offer_head, order_lines, hinders, control_now}
 use Rattle.un_lane.specs.Stands.{Stands}
 use Rattle.un_lane.specs.Way.{Way, Adds}
+use Rattle.un_lane.specs.Answered.{IsUnchanged}
 use Rattle.un_link.specs.Keeps.{Keeps, Does}
 use Rattle.un_link.specs.Link.{Link, Steps}
 use Rattle.un_link.specs.Requests.{KeepsRequests}
 use Rattle.un_link.proofs.Controlling.{same_steps}
+use Rattle.un_link.proofs.Unchanged.{always}
 
 nothing_added : (log : Log) → Adds log log []
 nothing_added log = record { history_is = sym (append-nil log.history); lines_left = omega arith; bytes_left = omega arith }
@@ -32,6 +34,7 @@ idle_does script phase w way log answer e k = record {
   lane_is = refl;
   keeps = k;
   flight_is = refl;
+  unchanged = always answer (IsUnchanged way way log log) (refl, refl);
 }
 
 -- an offer of an empty feed

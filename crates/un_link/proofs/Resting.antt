@@ -12,6 +12,9 @@ use Rattle.un_journal.specs.Lookup.{phase_of, is_stopping, is_leaving, is_asleep
 use Rattle.un_journal.specs.LaneSteps.{Writes, Answers}
 use Rattle.un_journal.specs.Step.{Work, work, is_still, away, all_home, settled_line, quiet}
 use Rattle.un_journal.specs.Fits.{Legal, IsDone}
+use Rattle.un_journal.specs.Done.{IsFinished}
+use Rattle.un_journal.proofs.Finished.{done_finished}
+use Rattle.un_journal.proofs.Ranges.{have_pools}
 use Rattle.un_journal.proofs.Homes.{away_some, away_none}
 use Rattle.un_journal.proofs.Closed.{quiet_done}
 use Rattle.un_journal.proofs.LinkFacts.{lane_still, quiet_parts}
@@ -93,3 +96,7 @@ pub finished_is : (link : Link) (n : ℕ) → Holds link → n ≡ length link.s
 finished_is link n k c q e =
     finished_done link.script link.log.history k.logged.legal
     (ap (λ b. b && controls_done (reverse link.log.history) == length link.script.controls) q ∙ (ap (λ m. m == length link.script.controls) (sym k.done_is) ∙ (ap (λ m. link.done == m) (sym c) ∙ e)))
+
+-- and what it means to be done
+pub finished_says : (link : Link) (n : ℕ) → Holds link → n ≡ length link.script.controls → quiet link.script link.log.history ≡ true → (link.done == n) ≡ true → IsFinished link.script link.log.history
+finished_says link n k c q e = done_finished link.script link.log.history (have_pools link.script.params k.logged.in_range) (finished_is link n k c q e)

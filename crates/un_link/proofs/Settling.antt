@@ -165,4 +165,5 @@ module _ (link : Link) (k : Holds link) (fits : settle link.script link.log.hist
           ∙ (ap (λ g. lane_flights Outward (bare (Settled a b c d) ∷ past Outward link.log.history) out'.bus.flight ++ lane_flights Inward g inward'.bus.flight) (new_past Inward)
           ∙ (ap (λ fs. fs ++ lane_flights Inward (bare (Settled a b c d) ∷ past Inward link.log.history) inward'.bus.flight) (same_flights Outward (past Outward link.log.history) a b c d link.out.bus.flight out'.bus.flight (ap (λ (w : Way). w.bus.flight) out_now))
           ∙ ap (λ fs. lane_flights Outward (past Outward link.log.history) link.out.bus.flight ++ fs) (same_flights Inward (past Inward link.log.history) a b c d link.inward.bus.flight inward'.bus.flight (ap (λ (w : Way). w.bus.flight) in_now))));
+      unchanged = tt;
     }

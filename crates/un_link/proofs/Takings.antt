@@ -20,7 +20,7 @@ use Rattle.un_journal.proofs.Onto.{onto}
 use Rattle.un_lane.specs.Way.{Way, Adds}
 use Rattle.un_lane.specs.Stands.{Stands, flight_serial, serial_of}
 use Rattle.un_lane.specs.Phases.{Leaves}
-use Rattle.un_lane.specs.Answered.{Answered}
+use Rattle.un_lane.specs.Answered.{Answered, IsUnchanged}
 use Rattle.un_lane.proofs.Lookups.{queued_is}
 use Rattle.un_link.specs.Keeps.{Keeps}
 use Rattle.un_link.specs.Link.{flight_in, lane_flights}
@@ -127,6 +127,7 @@ part_came script phase old new log log' lane trip at k goes a =
             ∙ (ap (lane_flights old.lane (past old.lane log'.history)) a.is_out
             ∙ out_is old.lane (past old.lane log'.history) (record { lane = lane; trip = trip }) (sym at) bytes);
       };
+      unchanged = tt;
     }
 
 pub cut_came : (script : Script) (phase : Phase) (old new : Way) (log log' : Log) → Keeps script phase old (past old.lane log.history)
@@ -143,16 +144,18 @@ cut_came script phase old new log log' k goes a f =
         none_was = none_out old.lane (past old.lane log.history) old.bus.flight none;
         none_is = none_out new.lane (past new.lane log'.history) new.bus.flight (ap flight_serial f ∙ none);
       };
+      unchanged = tt;
     }
 
 pub not_came : (script : Script) (phase : Phase) (old new : Way) (log log' : Log) (answer : Answer) → Keeps script phase old (past old.lane log.history)
     → Goes script phase (Work.Take old.lane) old new log log'
     → Answered new (past old.lane log.history) (work script log.history (Work.Take old.lane)) (Not answer)
-    → new.bus.flight ≡ old.bus.flight
+    → new.bus.flight ≡ old.bus.flight → IsUnchanged old new log log'
     → TakesOut script phase old new log log' (Not answer)
-not_came script phase old new log log' answer k goes a f = record {
+not_came script phase old new log log' answer k goes a f u = record {
   goes = goes;
   came = (a, path_kept script phase (Work.Take old.lane) old new log log' refl k.stands goes f);
+  unchanged = u;
 }
 
 -- LAND

@@ -11,6 +11,7 @@ use Rattle.un_journal.specs.LaneSteps.{lines_in, answer_in}
 use Rattle.un_journal.specs.Step.{Work, work}
 use Rattle.un_journal.proofs.LaneFacts.{lane_of}
 use Rattle.un_lane.specs.Way.{Way, Adds}
+use Rattle.un_lane.specs.Answered.{UnlessDid, IsUnchanged}
 use Rattle.un_lane.specs.Stands.{Stands}
 use Rattle.un_lane.specs.Phases.{Leaves}
 use Rattle.un_link.specs.Keeps.{Keeps, Does}
@@ -49,9 +50,9 @@ pub tick_does : (script : Script) (phase : Phase) (old new : Way) (log log' : Lo
     → Adds log log' (lines_in (work script log.history (Work.Tick old.lane))) → answer ≡ answer_in (work script log.history (Work.Tick old.lane))
     → Stands new (past new.lane log'.history)
     → Builds (is_asleep phase) old new old.tx.builder.frames (past old.lane log.history) (past new.lane log'.history)
-    → new.bus.flight ≡ old.bus.flight
+    → new.bus.flight ≡ old.bus.flight → UnlessDid answer (IsUnchanged old new log log')
     → Does script phase (Work.Tick old.lane) old new log log' answer
-tick_does script phase old new log log' answer k a e s l f =
+tick_does script phase old new log log' answer k a e s l f u =
     let own : past new.lane log'.history ≡ past old.lane log'.history = ap (λ lane. past lane log'.history) l.lane_is in
     let low = work_covers script log.history log'.history (Work.Tick old.lane) old.lane refl a.history_is (subst IsSound own s.sound) in
     let same = subst (λ h'. datagrams script old.lane (past old.lane h') ≡ datagrams script old.lane (past old.lane log.history)) (sym a.history_is) (calm_same script log.history (Work.Tick old.lane) old.lane refl refl).frames in
@@ -67,19 +68,21 @@ tick_does script phase old new log log' answer k a e s l f =
             (built_after _ _ _ _ low (k.frames_are ∙ ap (drop (cover (past old.lane log.history))) (sym same)) ∙ ap (λ lane. built_frames script lane (past old.lane log'.history)) (sym l.lane_is));
       };
       flight_is = f;
+      unchanged = u;
     }
 
 pub plain_does : (script : Script) (phase : Phase) (w : Work) (old new : Way) (log log' : Log) (answer : Answer)
     → lane_of w ≡ Some old.lane → is_plain w ≡ true
     → Keeps script phase old (past old.lane log.history)
     → Adds log log' (lines_in (work script log.history w)) → answer ≡ answer_in (work script log.history w)
-    → Stands new (past new.lane log'.history) → Leaves old new → new.bus.flight ≡ old.bus.flight
+    → Stands new (past new.lane log'.history) → Leaves old new → new.bus.flight ≡ old.bus.flight → UnlessDid answer (IsUnchanged old new log log')
     → Does script phase w old new log log' answer
-plain_does script phase w old new log log' answer of plain k a e s l f = record {
+plain_does script phase w old new log log' answer of plain k a e s l f u = record {
   adds = a;
   answers = e;
   lane_is = l.lane_is;
   keeps = kept script phase old new log.history log'.history k s l
       (subst (λ h'. built_frames script old.lane (past old.lane h') ≡ built_frames script old.lane (past old.lane log.history)) (sym a.history_is) (plain_frames script w old.lane _ _ plain (calm_same script log.history w old.lane of (plain_calm w plain))));
   flight_is = f;
+  unchanged = u;
 }

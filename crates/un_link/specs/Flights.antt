@@ -15,6 +15,7 @@ use Rattle.un_journal.specs.Log.{Log}
 use Rattle.un_journal.specs.LaneSteps.{Outcome, Writes, Answers, lines_in, bare}
 use Rattle.un_journal.specs.Step.{Work, work}
 use Rattle.un_lane.specs.Way.{Way, Adds}
+use Rattle.un_lane.specs.Answered.{UnlessTaken, IsUnchanged}
 use Rattle.un_link.specs.Keeps.{Keeps}
 use Rattle.un_link.specs.Link.{Link, lane_flights}
 
@@ -98,6 +99,7 @@ path_flights way log = lane_flights way.lane (past way.lane log.history) way.bus
 pub record TakesOut (script : Script) (phase : Phase) (old new : Way) (log log' : Log) (got : Got LaneTrip) : Type 0 where
   pub goes : Goes script phase (Work.Take old.lane) old new log log'
   pub came : Came old.lane (past old.lane log.history) (work script log.history (Work.Take old.lane)) got (path_flights old log) (path_flights new log')
+  pub unchanged : UnlessTaken got (IsUnchanged old new log log')
 
 pub record BringsBack (script : Script) (phase : Phase) (old new : Way) (log log' : Log) : Type 0 where
   pub goes : Goes script phase (Work.Land old.lane) old new log log'

@@ -10,6 +10,7 @@ use Rattle.un_journal.specs.Lookup.{is_asleep, built_frames}
 use Rattle.un_journal.specs.LaneSteps.{lines_in, answer_in}
 use Rattle.un_journal.specs.Step.{Work, work}
 use Rattle.un_lane.specs.Way.{Way, Adds}
+use Rattle.un_lane.specs.Answered.{UnlessDid, IsUnchanged}
 use Rattle.un_lane.specs.Stands.{Stands}
 use Rattle.un_lane.specs.Phases.{Agrees}
 use Rattle.un_link.specs.declared.cursors.Cursors.{Cursors}
@@ -51,13 +52,14 @@ pub record Keeps (script : Script) (phase : Phase) (way : Way) (g : History) : T
   pub agrees : Agrees (is_asleep phase) way
   pub frames_are : way.tx.builder.frames ≡ built_frames script way.lane g
 
--- the path does a lane's work: it writes the lines of it and answers as it says, and keeps what it kept; no flight comes or goes
+-- the path does a lane's work: it writes the lines of it and answers as it says, and keeps what it kept; no flight comes or goes, and a refusal changes nothing
 pub record Does (script : Script) (phase : Phase) (w : Work) (old new : Way) (log log' : Log) (answer : Answer) : Type 0 where
   pub adds : Adds log log' (lines_in (work script log.history w))
   pub answers : answer ≡ answer_in (work script log.history w)
   pub lane_is : new.lane ≡ old.lane
   pub keeps : Keeps script phase new (past new.lane log'.history)
   pub flight_is : new.bus.flight ≡ old.bus.flight
+  pub unchanged : UnlessDid answer (IsUnchanged old new log log')
 
 -- a lane's work, but for offers and flights
 abbrev pub work_of : Lane → Task → Work

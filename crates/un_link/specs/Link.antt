@@ -16,6 +16,7 @@ use Rattle.un_journal.specs.LaneSteps.{Outcome, lines_in, answer_in}
 use Rattle.un_journal.specs.Drain.{line_bound}
 use Rattle.un_journal.specs.Fits.{Legal}
 use Rattle.un_lane.specs.Way.{Way}
+use Rattle.un_lane.specs.Answered.{UnlessDid}
 use Rattle.un_link.specs.declared.cursors.Cursors.{Cursors}
 use Rattle.un_link.specs.Keeps.{AreRead, Keeps}
 
@@ -75,9 +76,10 @@ flights_of link =
 
 -- STEPS
 
--- a call adds the lines of a step and answers as it says; the script and the flights that are out stay
+-- a call adds the lines of a step and answers as it says; the script and the flights that are out stay, and where it doesn't answer `Did` the whole link
 pub record Steps (old new : Link) (outcome : Outcome) (answer : Answer) : Type 0 where
   pub script_is : new.script ≡ old.script
   pub history_is : new.log.history ≡ old.log.history ++ lines_in outcome
   pub answers : answer ≡ answer_in outcome
   pub flights_are : flights_of new ≡ flights_of old
+  pub unchanged : UnlessDid answer (new ≡ old)

@@ -8,6 +8,7 @@ ghost use Rattle.un_journal.specs.Lookup.{feed_head, phase_of, works};
 ghost use Rattle.un_journal.specs.LaneSteps.{lines_in};
 ghost use Rattle.un_journal.specs.Step.{Offer, is_still, work};
 ghost use Rattle.un_lane.specs.Way.{HasRoom};
+ghost use Rattle.un_lane.specs.Answered.{UnlessDid};
 ghost use Rattle.un_link.specs.Ends.{offers_still};
 ghost use Rattle.un_link.specs.Keeps.{AreRead, Does, Keeps};
 
@@ -43,6 +44,7 @@ pub(crate) fn offer<T: TxEnd + Drop, R: RxEnd + Drop>(
     requires room { HasRoom journal.old (lines_in (work script.now journal.old.history (Offer lane sender))) }
     ensures does { Does script.now phase (Offer lane sender) path.old path.new journal.old journal.new result }
     ensures read { AreRead read.new (past lane journal.new.history) }
+    ensures refused { UnlessDid result (read.new ≡ read.old) }
 {
     let Some(frame) = script.frame(lane, sender, read.at(sender)) else {
         return Answer::Spent;
@@ -81,6 +83,7 @@ fn accept<T: TxEnd + Drop, R: RxEnd + Drop>(
     requires good { verdict_of script.now.params lane frame.now ≡ Take }
     ensures does { Does script.now phase (Offer lane sender) path.old path.new journal.old journal.new result }
     ensures read { AreRead read.new (past lane journal.new.history) }
+    ensures refused { UnlessDid result (read.new ≡ read.old) }
 {
     let _ = script;
     let _ = lane;

@@ -9,7 +9,7 @@ ghost use Rattle.un_journal.specs.Drain.{line_bound};
 use un_frame::Lane;
 use un_script::Script;
 
-/// The bytes that each line of a frame may carry beside the frame itself, twice.
+/// The bytes that are reserved for each frame beside twice its length.
 const RESERVED_BYTES: u64 = 192;
 
 /// How many lines a history of the script may have: 13 for each frame; of each receive request one, and two for each control; 4 for each control.

@@ -4,6 +4,7 @@ ghost use Rattle.std.specs.Prelude.{◌≡◌, ◌<◌, ◌≤◌, length};
 ghost use Rattle.un_endpoint.specs.Ends.{IsAwayTx};
 ghost use Rattle.un_endpoint.specs.EndOutcomes.{with_frame};
 ghost use Rattle.un_journal.specs.LaneSteps.{accept, answer_in, lines_in, tick_built};
+ghost use Rattle.un_lane.specs.Answered.{IsUnchanged, UnlessDid};
 ghost use Rattle.un_lane.specs.Phases.{Agrees, Builds, IsSent, defers, offered};
 ghost use Rattle.un_lane.specs.Stands.{Stands};
 ghost use Rattle.un_lane.specs.Way.{Adds, HasRoom, lane_lines};
@@ -35,6 +36,7 @@ impl<T: TxEnd + Drop, R: RxEnd + Drop> Path<T, R> {
         ensures stands { Stands self.new (lane_lines self.new journal.new) }
         ensures leaves { Builds asleep self.old self.new (offered self.old.tx frame.now result) (lane_lines self.old journal.old) (lane_lines self.new journal.new) }
         ensures flight { self.new.bus.flight ≡ self.old.bus.flight }
+        ensures refused { UnlessDid result (IsUnchanged self.old self.new journal.old journal.new) }
     {
         let lane = self.lane;
         match self.tx.offer(frame, self.accepted, self.made) {
@@ -72,6 +74,7 @@ impl<T: TxEnd + Drop, R: RxEnd + Drop> Path<T, R> {
         ensures stands { Stands self.new (lane_lines self.new journal.new) }
         ensures leaves { Builds asleep self.old self.new self.old.tx.builder.frames (lane_lines self.old journal.old) (lane_lines self.new journal.new) }
         ensures flight { self.new.bus.flight ≡ self.old.bus.flight }
+        ensures refused { UnlessDid result (IsUnchanged self.old self.new journal.old journal.new) }
     {
         let lane = self.lane;
         match self.tx.tick(self.made) {

@@ -4,6 +4,7 @@ ghost use Rattle.std.specs.Prelude.{◌≡◌};
 ghost use Rattle.un_journal.specs.LaneSteps.{answer_in, lines_in, unlink_first};
 ghost use Rattle.un_journal.specs.History.{History};
 ghost use Rattle.un_journal.specs.Step.{dropped_built};
+ghost use Rattle.un_lane.specs.Answered.{IsUnchanged, UnlessDid};
 ghost use Rattle.un_lane.specs.Controls.{LeavesBus, LosesBuild, Queues, Stays, Writes, deferred_lines, dropped_lines, posted_lines, resumed, settled, unmarked_in, unmarked_lines};
 ghost use Rattle.un_lane.specs.Phases.{IsDropped, Leaves};
 ghost use Rattle.un_lane.specs.Stands.{ArePlaced, Stands};
@@ -25,6 +26,7 @@ impl<T: TxEnd + Drop, R: RxEnd + Drop> Path<T, R> {
         ensures stands { Stands self.new (lane_lines self.new journal.new) }
         ensures leaves { Leaves self.old self.new }
         ensures flight { self.new.bus.flight ≡ self.old.bus.flight }
+        ensures refused { UnlessDid result (IsUnchanged self.old self.new journal.old journal.new) }
     {
         let lane = self.lane;
         match self.bus.mark_oldest(cause) {

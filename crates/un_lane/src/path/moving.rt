@@ -4,7 +4,7 @@ ghost use Rattle.std.specs.Prelude.{◌≡◌, map, None, Some};
 ghost use Rattle.un_endpoint.specs.Bus.{record_of};
 ghost use Rattle.un_journal.specs.History.{made_bytes};
 ghost use Rattle.un_journal.specs.LaneSteps.{answer_in, clear_set, deliver_next, land_fault, lines_in, post, rx_done, take_queued, tx_done};
-ghost use Rattle.un_lane.specs.Answered.{Answered, KeepsFlight};
+ghost use Rattle.un_lane.specs.Answered.{Answered, IsUnchanged, KeepsFlight, UnlessDid, UnlessTaken};
 ghost use Rattle.un_lane.specs.Phases.{Leaves};
 ghost use Rattle.un_lane.specs.Stands.{Stands, serial_of};
 ghost use Rattle.un_lane.specs.Way.{Adds, HasRoom, lane_lines};
@@ -26,6 +26,7 @@ impl<T: TxEnd + Drop, R: RxEnd + Drop> Path<T, R> {
         ensures stands { Stands self.new (lane_lines self.new journal.new) }
         ensures leaves { Leaves self.old self.new }
         ensures flight { KeepsFlight result self.old self.new }
+        ensures refused { UnlessTaken result (IsUnchanged self.old self.new journal.old journal.new) }
     {
         let lane = self.lane;
         match self.bus.take(asleep) {
@@ -113,6 +114,7 @@ impl<T: TxEnd + Drop, R: RxEnd + Drop> Path<T, R> {
         ensures stands { Stands self.new (lane_lines self.new journal.new) }
         ensures leaves { Leaves self.old self.new }
         ensures flight { self.new.bus.flight ≡ self.old.bus.flight }
+        ensures refused { UnlessDid result (IsUnchanged self.old self.new journal.old journal.new) }
     {
         let lane = self.lane;
         let serial = match self.tx.tx_done() {
@@ -132,6 +134,7 @@ impl<T: TxEnd + Drop, R: RxEnd + Drop> Path<T, R> {
         ensures stands { Stands self.new (lane_lines self.new journal.new) }
         ensures leaves { Leaves self.old self.new }
         ensures flight { self.new.bus.flight ≡ self.old.bus.flight }
+        ensures refused { UnlessDid result (IsUnchanged self.old self.new journal.old journal.new) }
     {
         let lane = self.lane;
         let serial = match self.rx.rx_done() {
@@ -152,6 +155,7 @@ impl<T: TxEnd + Drop, R: RxEnd + Drop> Path<T, R> {
         ensures stands { Stands self.new (lane_lines self.new journal.new) }
         ensures leaves { Leaves self.old self.new }
         ensures flight { self.new.bus.flight ≡ self.old.bus.flight }
+        ensures refused { UnlessDid result (IsUnchanged self.old self.new journal.old journal.new) }
     {
         let lane = self.lane;
         match self.rx.lend() {
@@ -173,6 +177,7 @@ impl<T: TxEnd + Drop, R: RxEnd + Drop> Path<T, R> {
         ensures stands { Stands self.new (lane_lines self.new journal.new) }
         ensures leaves { Leaves self.old self.new }
         ensures flight { self.new.bus.flight ≡ self.old.bus.flight }
+        ensures refused { UnlessDid result (IsUnchanged self.old self.new journal.old journal.new) }
     {
         let lane = self.lane;
         match self.rx.refill() {
@@ -196,6 +201,7 @@ impl<T: TxEnd + Drop, R: RxEnd + Drop> Path<T, R> {
         ensures stands { Stands self.new (lane_lines self.new journal.new) }
         ensures leaves { Leaves self.old self.new }
         ensures flight { self.new.bus.flight ≡ self.old.bus.flight }
+        ensures refused { UnlessDid result (IsUnchanged self.old self.new journal.old journal.new) }
     {
         let lane = self.lane;
         if !self.bus.clear() {

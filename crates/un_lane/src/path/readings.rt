@@ -59,7 +59,8 @@ impl<T: TxEnd + Drop, R: RxEnd + Drop> Path<T, R> {
 
     /// Whether no flight is out and in this phase, which is the link's, none of Tick, Take, TxDone, RxDone, Deliver, Refill, Unlink and ClearHalt of the lane would answer `Did`. It takes constant time.
     pub fn still(&self, phase: Phase) -> bool
-        ensures { (frames : List (List ℕ)) (cause : ℕ) (g : History) → Stands self.now g → Agrees (is_asleep phase) self.now → result ≡ is_lane_still self.now.tx.params phase self.now.lane frames cause g }
+        ensures now { result ≡ stays phase self.now }
+        ensures lines { (frames : List (List ℕ)) (cause : ℕ) (g : History) → Stands self.now g → Agrees (is_asleep phase) self.now → result ≡ is_lane_still self.now.tx.params phase self.now.lane frames cause g }
     {
         self.stays(phase)
     }

@@ -1,8 +1,12 @@
 //! The serial drain.
 
 ghost use Rattle.std.specs.Prelude.{◌≡◌, ◌<◌, [], Some, slice_get};
+ghost use Rattle.un_frame.specs.declared.params.Lane.{Lane as JournalLane};
+ghost use Rattle.un_journal.specs.Done.{IsFinished};
 ghost use Rattle.un_journal.specs.Drain.{drain, round, run};
 ghost use Rattle.un_journal.specs.Fits.{IsDone};
+ghost use Rattle.un_journal.specs.History.{given, past};
+ghost use Rattle.un_journal.specs.Unplug.{AwaitsUnplug, IsPrefix, IsSettledAway};
 ghost use Rattle.un_link.specs.Drain.{DrainsOn};
 ghost use Rattle.un_link.specs.Link.{flights_of};
 
@@ -82,12 +86,15 @@ const ROUND: [Action; 26] = [
 ];
 
 impl<A: TxEnd + Drop, B: RxEnd + Drop, C: TxEnd + Drop, D: RxEnd + Drop> LinkOver<A, B, C, D> {
-    /// Repeats a round of every action; after a round that did nothing the next control is forced. It ends where no control is left. No flight is out at its start; afterwards the link is finished.
+    /// Repeats a round of every action; after a round that did nothing the next control is forced. It ends where no control is left. No flight is out at its start; afterwards the link is finished. Where an unplug was the one control left it is away and settled. What was given before begins what is given then.
     pub fn drain(&mut self)
         requires { flights_of self.old ≡ [] }
         ensures script { self.new.script ≡ self.old.script }
         ensures history { self.new.log.history ≡ drain self.old.script self.old.log.history }
         ensures done { IsDone self.new.script self.new.log.history }
+        ensures finished { IsFinished self.new.script self.new.log.history }
+        ensures cut { AwaitsUnplug self.old.script self.old.log.history → IsSettledAway self.new.script self.new.log.history }
+        ensures kept { (lane : JournalLane) → IsPrefix (given (past lane self.old.log.history)) (given (past lane self.new.log.history)) }
         ensures flights { flights_of self.new ≡ [] }
     {
         let _ = &self.journal;

@@ -5,6 +5,7 @@ ghost use Rattle.un_journal.specs.declared.actions.Action.TheVariants.{Move};
 ghost use Rattle.un_journal.specs.declared.actions.Answer.TheVariants.{Did};
 ghost use Rattle.un_journal.specs.Flights.{Loses, Takes, times};
 ghost use Rattle.un_journal.specs.Step.{outcome};
+ghost use Rattle.un_lane.specs.Answered.{UnlessTaken};
 ghost use Rattle.un_link.specs.Flights.{LandsIn, TakesFrom, flight_of, landed_lines, taken_lines, taken_of};
 ghost use Rattle.un_link.specs.Link.{Steps, flights_of};
 
@@ -23,6 +24,7 @@ impl<A: TxEnd + Drop, B: RxEnd + Drop, C: TxEnd + Drop, D: RxEnd + Drop> LinkOve
         ensures script { self.new.script ≡ self.old.script }
         ensures history { self.new.log.history ≡ self.old.log.history ++ taken_lines self.old.script self.old.log.history lane }
         ensures lanes { TakesFrom lane self.old self.new result }
+        ensures refused { UnlessTaken result (self.new ≡ self.old) }
     {
         match lane {
             Lane::Outward => take(

@@ -2,6 +2,7 @@
 
 ghost use Rattle.std.specs.Prelude.{◌≡◌, ◌++◌};
 ghost use Rattle.un_journal.specs.Step.{Offer, answer_of, step_of, work};
+ghost use Rattle.un_lane.specs.Answered.{UnlessDid};
 ghost use Rattle.un_link.specs.Keeps.{work_of};
 ghost use Rattle.un_link.specs.Link.{Steps, flights_of};
 
@@ -20,6 +21,7 @@ impl<A: TxEnd + Drop, B: RxEnd + Drop, C: TxEnd + Drop, D: RxEnd + Drop> LinkOve
         ensures script { self.new.script ≡ self.old.script }
         ensures history { self.new.log.history ≡ self.old.log.history ++ step_of self.old.script self.old.log.history action }
         ensures flights { flights_of self.new ≡ flights_of self.old }
+        ensures refused { UnlessDid result (self.new ≡ self.old) }
     {
         match action {
             Action::Offer { lane, sender } => self.offer(lane, sender),

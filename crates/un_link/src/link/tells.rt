@@ -1,11 +1,12 @@
 //! What a link tells. No reading takes memory or changes anything.
 
-ghost use Rattle.std.specs.Prelude.{◌≡◌, ◌&&◌, ◌||◌, true, not};
+ghost use Rattle.std.specs.Prelude.{◌≡◌, ◌&&◌, true, not};
 ghost use Rattle.un_frame.specs.declared.params.Lane.TheVariants.{Outward, Inward};
+ghost use Rattle.un_journal.specs.Done.{IsFinished};
 ghost use Rattle.un_journal.specs.Fits.{IsDone, Legal};
 ghost use Rattle.un_journal.specs.History.{past};
-ghost use Rattle.un_journal.specs.Lookup.{is_leaving, is_stopping, phase_of, rx_home, tx_home};
-ghost use Rattle.un_journal.specs.Step.{Settle, away, is_still, quiet, work};
+ghost use Rattle.un_journal.specs.Lookup.{phase_of, rx_home, tx_home};
+ghost use Rattle.un_journal.specs.Step.{Settle, is_still, quiet, work};
 ghost use Rattle.un_link.specs.Ends.{is_finished, offers_still};
 ghost use Rattle.un_link.specs.Lawful.{AtEveryMoment};
 ghost use Rattle.un_link.specs.Link.{Holds};
@@ -13,6 +14,7 @@ ghost use Rattle.un_link.specs.Requests.{KeepsRequests};
 
 use crate::homes::Homes;
 use crate::link::LinkOver;
+use crate::link::control::stops;
 use crate::offer::offers_nothing;
 use un_endpoint::{RxEnd, TxEnd};
 use un_frame::{Lane, Phase};
@@ -87,10 +89,11 @@ impl<A: TxEnd + Drop, B: RxEnd + Drop, C: TxEnd + Drop, D: RxEnd + Drop> LinkOve
         are_all(out, inward, offers, !settles)
     }
 
-    /// Whether the link is quiet and no control is left; then no step fits any more, and no flight is out.
+    /// Whether the link is quiet and no control is left; then no step fits any more, no flight is out, each stop is settled, and each datagram is given or lost, or waits in a sleeping link.
     pub fn finished(&self) -> bool
         ensures answer { result ≡ is_finished self.now.script self.now.log.history }
         ensures done { result ≡ true → IsDone self.now.script self.now.log.history }
+        ensures finished { result ≡ true → IsFinished self.now.script self.now.log.history }
     {
         self.quiet() && self.done == self.script.control_count()
     }
@@ -120,24 +123,8 @@ impl<A: TxEnd + Drop, B: RxEnd + Drop, C: TxEnd + Drop, D: RxEnd + Drop> LinkOve
     fn would_settle(&self) -> bool
         ensures { is_still (work self.now.script self.now.log.history Settle) ≡ not result }
     {
-        let away = self.away();
-        is_ending(self.phase) && away == 0
-    }
-
-    /// How many requests aren't home.
-    pub(crate) fn away(&self) -> u64
-        ensures { result ≡ away self.now.script self.now.log.history }
-    {
-        let params = self.script.params();
-        let homes = self.homes();
-        u64::from(params.tx_out)
-            + u64::from(params.rx_out)
-            + u64::from(params.tx_in)
-            + u64::from(params.rx_in)
-            - (u64::from(homes.tx_out)
-                + u64::from(homes.rx_out)
-                + u64::from(homes.tx_in)
-                + u64::from(homes.rx_in))
+        let away = self.requests_away();
+        stops(self.phase) && away == 0
     }
 }
 
@@ -146,11 +133,4 @@ fn are_all(first: bool, second: bool, third: bool, fourth: bool) -> bool
     ensures { result ≡ ((first && second) && (third && fourth)) }
 {
     first && second && third && fourth
-}
-
-/// Whether a stop or an unplug goes on in this phase.
-pub(crate) fn is_ending(phase: Phase) -> bool
-    ensures { result ≡ (is_stopping phase || is_leaving phase) }
-{
-    matches!(phase, Phase::Stopping | Phase::Leaving)
 }

@@ -2,6 +2,7 @@ use Rattle.std.proofs.Common.{subst}
 use Rattle.un_journal.specs.LaneSteps.{lines_in}
 use Rattle.un_lane.specs.Way.{HasRoom}
 use Rattle.un_link.proofs.Offers.{accept_is, cursor_small, accept_does, accept_advances, accept_stays}
+use Rattle.un_link.proofs.Unchanged.{same_read}
 use Rattle.un_link.proofs.offer.accept.Goals as goal
 
 pub advance-requires : goal.advance-requires
@@ -22,7 +23,7 @@ returns-in-Did-clause-does g c =
     let good = rw (← c.requires.lane) at c.requires.good in
     let d = c.offer.ensures in
     rw (← c.requires.lane, ← c.in-Did.is)
-    (accept_does c.args.script.now c.args.phase c.args.path.now c.offer.new.self c.args.journal.now c.offer.new.journal c.args.sender c.args.frame.now c.offer.result keeps c.requires.phase c.requires.works head good d.lines d.answer d.stands (rw (← c.sleeps.ensures) d.leaves) d.flight)
+    (accept_does c.args.script.now c.args.phase c.args.path.now c.offer.new.self c.args.journal.now c.offer.new.journal c.args.sender c.args.frame.now c.offer.result keeps c.requires.phase c.requires.works head good d.lines d.answer d.stands (rw (← c.sleeps.ensures) d.leaves) d.flight d.refused)
 
 pub returns-in-Did-clause-read : goal.returns-in-Did-clause-read
 returns-in-Did-clause-read g c =
@@ -43,6 +44,7 @@ returns-in_default g c =
     let d = c.offer.ensures in
     rw (← c.requires.lane)
     (record {
-      does = accept_does c.args.script.now c.args.phase c.args.path.now c.offer.new.self c.args.journal.now c.offer.new.journal c.args.sender c.args.frame.now c.offer.result keeps c.requires.phase c.requires.works head good d.lines d.answer d.stands (rw (← c.sleeps.ensures) d.leaves) d.flight;
+      does = accept_does c.args.script.now c.args.phase c.args.path.now c.offer.new.self c.args.journal.now c.offer.new.journal c.args.sender c.args.frame.now c.offer.result keeps c.requires.phase c.requires.works head good d.lines d.answer d.stands (rw (← c.sleeps.ensures) d.leaves) d.flight d.refused;
       read = accept_stays c.args.path.now c.args.journal.now c.offer.new.journal c.args.read.now c.args.sender c.args.frame.now c.offer.result d.lines.history_is d.answer c.in_default.not-Did read;
+      refused = same_read c.offer.result c.args.read.now;
     })

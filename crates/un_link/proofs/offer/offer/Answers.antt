@@ -17,6 +17,7 @@ returns-in_default-verdict g c =
       does = refuse_does c.args.script.now c.args.phase c.args.path.now c.args.journal.now c.push.new.self c.args.lane c.args.sender c.in-Some.frame.now why c.requires.lane
           c.requires.keeps c.requires.phase (search rules) head (sym (rw c.params.ensures at c.verdict.ensures)) c.in_default-verdict.not-Take (pushed _ _ (Refused c.args.lane c.args.sender why) p.history p.lines p.bytes);
       read = rw c.advance.ensures (refuse_reads c.args.journal.now c.push.new.self c.args.read.now c.args.lane c.args.sender why p.history c.requires.read);
+      refused = tt;
     }
 
 pub returns-in_default-clause-does : goal.returns-in_default-clause-does

@@ -37,3 +37,4 @@ returns-in-Not g c =
     (plain_goes c.args.script.now c.args.phase (Work.Take old.lane) old c.take.new.self c.args.journal.now c.take.new.journal refl refl refl c.requires.keeps (subst (λ o. Adds c.args.journal.now c.take.new.journal (lines_in o)) same d.lines) d.stands d.leaves)
     (subst (λ o. Answered c.take.new.self (past old.lane c.args.journal.now.history) o (Not c.in-Not.answer)) same (rw c.in-Not.is at d.answer))
     (rw c.in-Not.is at d.flight)
+    (rw c.in-Not.is at d.refused)

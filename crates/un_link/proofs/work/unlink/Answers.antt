@@ -14,4 +14,4 @@ returns-in-Stopping g c =
     let same = unmarked_is c.args.phase c.args.path.now _ c.requires.keeps.stands c.requires.keeps.agrees in
     plain_does _ _ (Unlink c.args.path.now.lane) _ _ _ _ _ refl refl c.requires.keeps
     (rw (← c.requires.phase, ← c.requires.cause, same, c.in-Stopping.is) d.lines)
-    (rw (← c.requires.phase, ← c.requires.cause, same, c.in-Stopping.is) d.answer) d.stands d.leaves d.flight
+    (rw (← c.requires.phase, ← c.requires.cause, same, c.in-Stopping.is) d.answer) d.stands d.leaves d.flight d.refused

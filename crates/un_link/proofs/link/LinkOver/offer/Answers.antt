@@ -21,8 +21,8 @@ invariant_of-self-in-Inward g c =
 
 pub returns-in-Outward : goal.returns-in-Outward
 returns-in-Outward g c =
-    rw (← c.self.view_is, c.in-Outward.is) (out_steps _ (Offer Outward c.args.sender) _ _ _ _ c.self.invariant refl (rw c.in-Outward.is at c.offer.ensures.does))
+    rw (← c.self.view_is, c.in-Outward.is) (out_steps _ (Offer Outward c.args.sender) _ _ _ _ c.self.invariant refl (rw c.in-Outward.is at c.offer.ensures.does) c.offer.ensures.refused)
 
 pub returns-in-Inward : goal.returns-in-Inward
 returns-in-Inward g c =
-    rw (← c.self.view_is, c.in-Inward.is) (in_steps _ (Offer Inward c.args.sender) _ _ _ _ c.self.invariant refl (rw c.in-Inward.is at c.offer-in-Inward.ensures.does))
+    rw (← c.self.view_is, c.in-Inward.is) (in_steps _ (Offer Inward c.args.sender) _ _ _ _ c.self.invariant refl (rw c.in-Inward.is at c.offer-in-Inward.ensures.does) c.offer-in-Inward.ensures.refused)

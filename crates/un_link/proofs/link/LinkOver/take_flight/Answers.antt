@@ -4,6 +4,7 @@ use Rattle.un_journal.specs.Step.{Work}
 use Rattle.un_journal.specs.Fits.{Works}
 use Rattle.un_link.proofs.Holding.{act_room}
 use Rattle.un_link.proofs.Flights.{out_goes, in_goes, out_takes, in_takes, takes}
+use Rattle.un_link.proofs.Unchanged.{out_refused, in_refused}
 use Rattle.un_link.proofs.link.LinkOver.take_flight.Goals as goal
 
 pub take-requires-clause-room : goal.take-requires-clause-room
@@ -29,3 +30,9 @@ returns-in-Inward-clause-taken g c = rw (← c.self.view_is, c.in-Inward.is) (ta
 
 pub returns-in-Inward-clause-lanes : goal.returns-in-Inward-clause-lanes
 returns-in-Inward-clause-lanes g c = rw (← c.self.view_is, c.in-Inward.is) (in_takes _ c.take-in-Inward.new.path c.take-in-Inward.new.journal c.take-in-Inward.result c.self.invariant c.take-in-Inward.ensures)
+
+pub returns-in-Outward-clause-refused : goal.returns-in-Outward-clause-refused
+returns-in-Outward-clause-refused g c = rw (← c.self.view_is) (out_refused _ c.take.new.path c.take.new.journal c.take.result c.take.ensures.unchanged)
+
+pub returns-in-Inward-clause-refused : goal.returns-in-Inward-clause-refused
+returns-in-Inward-clause-refused g c = rw (← c.self.view_is) (in_refused _ c.take-in-Inward.new.path c.take-in-Inward.new.journal c.take-in-Inward.result c.take-in-Inward.ensures.unchanged)
