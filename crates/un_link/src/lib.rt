@@ -18,4 +18,4 @@ mod work;
 pub use ends::Link;
 pub use flight::{LinkCarried, LinkFlight};
 pub use homes::Homes;
-pub use link::LinkOver;
+pub use link::{LinkOver, ROUND};

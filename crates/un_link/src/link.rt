@@ -18,6 +18,7 @@ mod tells;
 
 use crate::cursors::Cursors;
 use crate::room::{bytes_of, lines_of};
+pub use drain::ROUND;
 use std::alloc::{AllocError, Global};
 use std::marker::Model;
 use un_endpoint::{RxEnd, TxEnd};

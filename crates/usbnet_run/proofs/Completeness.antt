@@ -11,8 +11,9 @@ use Rattle.un_script.specs.declared.why.Why.{Why}
 use Rattle.un_script.specs.Reading.{script_of}
 use Rattle.un_setup.specs.declared.agreement.Agreed.{Agreed}
 use Rattle.un_wire.proofs.CursorLemmas.{readings_are_one}
-use Rattle.usbnet_run.specs.Command.{DecodeIsComplete, IsComplete, IsDrained, IsUnagreed, HasPrinted, RefusalsAreExact, bad_words, decodes, no_memory, read_fault, runs, too_large}
+use Rattle.usbnet_run.specs.Command.{DecodeIsComplete, IsComplete, IsDrained, IsUnagreed, HasPrinted, RefusalsAreExact, bad_words, decodes, runs, stops_reading}
 use Rattle.usbnet_run.specs.Decode.{IsOutside, bad_transfer, decoded, decoded_text, stopped}
+use Rattle.usbnet_run.specs.Reading.{no_memory, read_fault, too_large}
 use Rattle.usbnet_run.specs.Runs.{IsNoScript, IsRun, not_a_script, not_agreed, output, print_stopped, printed, refused, wants_memory}
 use Rattle.usbnet_run.specs.Words.{command_of}
 use Rattle.usbnet_run.specs.declared.words.Command.{Command}
@@ -68,10 +69,10 @@ complete words text given left held held' faults faults' script _ (runs _ w whol
     let same : script ≡ other = one_script script other (script_of given) (script_read text given left script c whole.0 is) r in
     absurd (not (subst (λ (x : Script). Agree x.params) same agree))
 complete words text given left held held' faults faults' script _ (decodes class status w whole ends) c serial few is agree a b = absurd (two_ways (command_of words) class serial w)
-complete words text given left held held' faults faults' script _ (no_memory command w t) c serial few is agree a b = inr refl
-complete words text given left held held' faults faults' script _ (read_fault command w size t) c serial few is agree a b = absurd (a refl)
+complete words text given left held held' faults faults' script _ (stops_reading command _ w (no_memory t)) c serial few is agree a b = inr refl
+complete words text given left held held' faults faults' script _ (stops_reading command _ w (read_fault size t)) c serial few is agree a b = absurd (a refl)
 complete words text given left held held' faults faults' script _ (bad_words w g t) c serial few is agree a b = absurd (is_none (command_of words) Serial serial w)
-complete words text given left held held' faults faults' script _ (too_large command w size t) c serial few is agree a b =
+complete words text given left held held' faults faults' script _ (stops_reading command _ w (too_large size t)) c serial few is agree a b =
     let some = gave_some text given left c in absurd (omega (arith, some))
 
 -- what the bytes are read as, by the words' class and the source's whole text
@@ -95,10 +96,10 @@ decode_complete words text given left held held' faults faults' class frames com
 decode_complete words text given left held held' faults faults' class frames commands _ (decodes other _ w whole (stopped others more r t)) c decode few is a b = absurd (b refl)
 decode_complete words text given left held held' faults faults' class frames commands _ (decodes other _ w whole (bad_transfer fault out f t)) c decode few is a b =
     absurd (out frames commands (reads_as (command_of words) class other text given frames commands decode w (gave_all text given left c whole.0) is))
-decode_complete words text given left held held' faults faults' class frames commands _ (no_memory command w t) c decode few is a b = inr refl
-decode_complete words text given left held held' faults faults' class frames commands _ (read_fault command w size t) c decode few is a b = absurd (a refl)
+decode_complete words text given left held held' faults faults' class frames commands _ (stops_reading command _ w (no_memory t)) c decode few is a b = inr refl
+decode_complete words text given left held held' faults faults' class frames commands _ (stops_reading command _ w (read_fault size t)) c decode few is a b = absurd (a refl)
 decode_complete words text given left held held' faults faults' class frames commands _ (bad_words w g t) c decode few is a b = absurd (is_none (command_of words) (Decode class) decode w)
-decode_complete words text given left held held' faults faults' class frames commands _ (too_large command w size t) c decode few is a b =
+decode_complete words text given left held held' faults faults' class frames commands _ (stops_reading command _ w (too_large size t)) c decode few is a b =
     let some = gave_some text given left c in absurd (omega (arith, some))
 
 -- EACH REFUSAL WHERE IT IS DUE
@@ -209,7 +210,7 @@ exact words given left held held' faults faults' _ (decodes class _ w whole (bad
   of_size = λ e. absurd (omega (arith, e));
   of_more = λ big. let few = whole.1 in absurd (omega (arith, few, big));
 }
-exact words given left held held' faults faults' _ (no_memory command w t) = record {
+exact words given left held held' faults faults' _ (stops_reading command _ w (no_memory t)) = record {
   of_words = good_words words command 1 w (λ e. omega (arith, e));
   of_script = λ e. absurd (omega (arith, e));
   of_no_script = λ a few bad c. inr refl;
@@ -220,7 +221,7 @@ exact words given left held held' faults faults' _ (no_memory command w t) = rec
   of_size = λ e. absurd (omega (arith, e));
   of_more = λ big. inr refl;
 }
-exact words given left held held' faults faults' _ (read_fault command w size t) = record {
+exact words given left held held' faults faults' _ (stops_reading command _ w (read_fault size t)) = record {
   of_words = good_words words command 2 w (λ e. omega (arith, e));
   of_script = λ e. absurd (omega (arith, e));
   of_no_script = λ a few bad c. absurd (c refl);
@@ -242,7 +243,7 @@ exact words given left held held' faults faults' _ (bad_words w none t) = record
   of_size = λ e. absurd (omega (arith, e));
   of_more = λ big. let nothing = ap length none in absurd (omega (arith, nothing, big));
 }
-exact words given left held held' faults faults' _ (too_large command w size t) = record {
+exact words given left held held' faults faults' _ (stops_reading command _ w (too_large size t)) = record {
   of_words = good_words words command 7 w (λ e. omega (arith, e));
   of_script = λ e. absurd (omega (arith, e));
   of_no_script = λ a few bad c. absurd (omega (arith, size, few));

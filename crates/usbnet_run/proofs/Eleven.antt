@@ -17,15 +17,6 @@ use Rattle.usbnet_run.specs.Runs.{Prints, Refuses, Runs}
 use Rattle.usbnet_run.proofs.LoadLaw.{load_whole}
 use Rattle.usbnet_run.proofs.Running.{prints_from, run_of, runs_of, tells_from}
 
--- what was run, from where the sink stood before
-pub runs_from : (EndsWith : Script → History → Type 0) (text given : List ℕ) (held held0 held' : Option (List ℕ)) (faults faults0 faults' status : ℕ) → text ≡ given → held ≡ held0 → faults ≡ faults0
-    → Runs EndsWith text held held' faults faults' status → Runs EndsWith given held0 held' faults0 faults' status
-runs_from EndsWith text given held held0 held' faults faults0 faults' status e h k r =
-    let P : List ℕ → Type 0 = λ t. Runs EndsWith t held held' faults faults' status in
-    let Q : Option (List ℕ) → Type 0 = λ u. Runs EndsWith given u held' faults faults' status in
-    let R : ℕ → Type 0 = λ n. Runs EndsWith given held0 held' n faults' status in
-    subst R k (subst Q h (subst P e r))
-
 -- the counts that a load's line is made of
 pub whole_found : (count : ℕ) (outward inward out-found in-found : Tally) → out-found ≡ outward → in-found ≡ inward → IsWholeLoad count outward inward → IsWholeLoad count out-found in-found
 whole_found count outward inward out-found in-found a b w =

@@ -2,9 +2,9 @@
 use Rattle.std.proofs.Common.{ℕ, List, [], ◌∷◌, ◌++◌, ◌≡◌, codes, decimal, Option, Some, Result, refl, sym, ap, subst, ◌∙◌}
 use Rattle.un_frame.specs.declared.params.Class.{Class}
 use Rattle.un_journal.specs.Script.{Script}
+use Rattle.un_journal.specs.History.{History}
 use Rattle.un_script.specs.declared.why.Why.{Why}
 use Rattle.un_script.specs.Reading.{script_of}
-use Rattle.usbnet_run.specs.Command.{IsDrained}
 use Rattle.usbnet_run.specs.Runs.{Runs, why_word, bad_script_line}
 use Rattle.usbnet_run.specs.Decode.{Decodes}
 use Rattle.usbnet_run.specs.Refusals.{Tells}
@@ -24,15 +24,23 @@ refusal a b c d e word line why ha hb hc hw hd he =
     he ∙ ap (λ t. t ++ codes "\n") (hd ∙ ap (λ t. t ++ 32 ∷ word) (hc ∙ ap (λ t. t ++ 32 ∷ decimal line) (hb ∙ ap (λ t. t ++ codes "bad script") ha))
     ∙ ap (λ w. codes "bad script" ++ 32 ∷ decimal line ++ 32 ∷ w) hw)
 
--- what was decoded, through what is lent
-pub decodes_given : (class : Class) (lent text given : List ℕ) (held held' : Option (List ℕ)) (faults faults' status : ℕ) → lent ≡ text → text ≡ given
-    → Decodes class lent held held' faults faults' status → Decodes class given held held' faults faults' status
-decodes_given class lent text given held held' faults faults' status e f d = let P : List ℕ → Type 0 = λ t. Decodes class t held held' faults faults' status in subst P (e ∙ f) d
+-- what was decoded, through what is lent and from where the sink stood before
+pub decodes_from : (class : Class) (lent text given : List ℕ) (held held0 held' : Option (List ℕ)) (faults faults0 faults' status : ℕ) → lent ≡ text → text ≡ given → held ≡ held0 → faults ≡ faults0
+    → Decodes class lent held held' faults faults' status → Decodes class given held0 held' faults0 faults' status
+decodes_from class lent text given held held0 held' faults faults0 faults' status e f h k d =
+    let P : List ℕ → Type 0 = λ t. Decodes class t held held' faults faults' status in
+    let Q : Option (List ℕ) → Type 0 = λ u. Decodes class given u held' faults faults' status in
+    let R : ℕ → Type 0 = λ n. Decodes class given held0 held' n faults' status in
+    subst R k (subst Q h (subst P (e ∙ f) d))
 
--- and what was run
-pub runs_given : (text given : List ℕ) (held held' : Option (List ℕ)) (faults faults' status : ℕ) → text ≡ given
-    → Runs IsDrained text held held' faults faults' status → Runs IsDrained given held held' faults faults' status
-runs_given text given held held' faults faults' status e r = let P : List ℕ → Type 0 = λ t. Runs IsDrained t held held' faults faults' status in subst P e r
+-- what was run, from where the sink stood before
+pub runs_from : (EndsWith : Script → History → Type 0) (text given : List ℕ) (held held0 held' : Option (List ℕ)) (faults faults0 faults' status : ℕ) → text ≡ given → held ≡ held0 → faults ≡ faults0
+    → Runs EndsWith text held held' faults faults' status → Runs EndsWith given held0 held' faults0 faults' status
+runs_from EndsWith text given held held0 held' faults faults0 faults' status e h k r =
+    let P : List ℕ → Type 0 = λ t. Runs EndsWith t held held' faults faults' status in
+    let Q : Option (List ℕ) → Type 0 = λ u. Runs EndsWith given u held' faults faults' status in
+    let R : ℕ → Type 0 = λ n. Runs EndsWith given held0 held' n faults' status in
+    subst R k (subst Q h (subst P e r))
 
 pub serial_asked : (asked : Option Command) (command : Command) → Some command ≡ asked → command ≡ Serial → asked ≡ Some Serial
 serial_asked asked command is serial = sym is ∙ ap (λ k. Some k) serial

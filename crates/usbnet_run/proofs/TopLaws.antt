@@ -6,10 +6,10 @@ use Rattle.un_journal.specs.Script.{Script}
 use Rattle.un_journal.specs.History.{History}
 use Rattle.un_script.specs.Reading.{script_of}
 use Rattle.un_setup.specs.declared.agreement.Agreed.{Agreed}
-use Rattle.usbnet_run.specs.Command.{Ends, IsUnagreed, MOST_INPUT, RefusesExactly}
+use Rattle.usbnet_run.specs.Command.{Ends, IsUnagreed, RefusesExactly}
 use Rattle.usbnet_run.specs.Kept.{IsKept}
 use Rattle.usbnet_run.specs.Loads.{Loads, loaded, load_stopped, wants_memory as load_wants_memory}
-use Rattle.usbnet_run.specs.Reading.{no_memory, read_fault, too_large}
+use Rattle.usbnet_run.specs.Reading.{MOST_INPUT, no_memory, read_fault, too_large}
 use Rattle.usbnet_run.specs.Runs.{IsNoScript, IsRun, not_a_script, not_agreed, output, print_stopped, printed, refused, wants_memory}
 use Rattle.usbnet_run.specs.Top.{MainEnds, MainRefusesExactly, MainRefusalsAreExact, HasPrintedKept, RunIsComplete, ends_load, ends_plain, ends_reading, ends_run}
 use Rattle.usbnet_run.specs.Words.{command_of, job_of}

@@ -1,6 +1,6 @@
 -- What a command answers: its statuses, what each says, and the line that a refusal writes.
-use Rattle.std.specs.Prelude.{◌≡◌, ◌↔◌, ℕ, ◌+◌, ◌<◌, ◌≤◌, List, [], ◌++◌, length, codes, ◌⊎◌, Option, Some, None, Ok, Err}
-use Rattle.std.specs.Io.KnownBytes.{Appends, Consumes, IsAtEnd}
+use Rattle.std.specs.Prelude.{◌≡◌, ◌↔◌, ℕ, ◌<◌, ◌≤◌, List, [], ◌++◌, length, codes, ◌⊎◌, Option, Some, None, Ok, Err}
+use Rattle.std.specs.Io.KnownBytes.{Appends, Consumes}
 use Rattle.un_frame.specs.declared.params.Class.{Class}
 use Rattle.un_frame.specs.Params.{Agree}
 use Rattle.un_frame.specs.Wire.{Reads}
@@ -11,19 +11,12 @@ use Rattle.un_script.specs.Reading.{script_of}
 use Rattle.un_setup.specs.declared.agreement.Agreed.{Agreed}
 use Rattle.un_setup.specs.Agreement.{agreed_of}
 use Rattle.usbnet_run.specs.Decode.{Decodes, IsOutside, decoded_text}
+use Rattle.usbnet_run.specs.Reading.{IsWhole, MOST_INPUT, StopsReading}
 use Rattle.usbnet_run.specs.Refusals.{Tells}
 use Rattle.usbnet_run.specs.Runs.{IsNoScript, Runs, output}
 use Rattle.usbnet_run.specs.Words.{command_of}
 use Rattle.usbnet_run.specs.declared.words.Command.{Command}
 use Rattle.usbnet_run.specs.declared.words.Command.TheVariants.{Serial, Decode}
-
--- the most bytes of input
-abbrev pub MOST_INPUT : ℕ
-MOST_INPUT = 16777216
-
--- the source gave its end, and what it gave in this call is no more than the most
-abbrev pub IsWhole : List ℕ → Option (List ℕ) → Type 0
-IsWhole given left = IsAtEnd left × (length given ≤ MOST_INPUT)
 
 -- the one history that serial ends with: what the drain leaves of a new link
 abbrev pub IsDrained : Script → History → Type 0
@@ -36,13 +29,9 @@ pub data Ends (words : List (List ℕ)) (given : List ℕ) (left held held' : Op
       → Runs IsDrained given held held' faults faults' status → Ends words given left held held' faults faults' status
   decodes : (class : Class) (status : ℕ) → command_of words ≡ Some (Decode class) → IsWhole given left
       → Decodes class given held held' faults faults' status → Ends words given left held held' faults faults' status
-  no_memory : (command : Command) → command_of words ≡ Some command → Tells held held' faults faults' (codes "no memory\n")
-      → Ends words given left held held' faults faults' 1
-  read_fault : (command : Command) → command_of words ≡ Some command → length given ≤ MOST_INPUT → Tells held held' faults faults' (codes "read fault\n")
-      → Ends words given left held held' faults faults' 2
+  stops_reading : (command : Command) (status : ℕ) → command_of words ≡ Some command → StopsReading given held held' faults faults' status
+      → Ends words given left held held' faults faults' status
   bad_words : command_of words ≡ None → given ≡ [] → Tells held held' faults faults' (codes "bad words\n") → Ends words given left held held' faults faults' 4
-  too_large : (command : Command) → command_of words ≡ Some command → length given ≡ MOST_INPUT + 1 → Tells held held' faults faults' (codes "too large\n")
-      → Ends words given left held held' faults faults' 7
 
 -- the text of a script whose parameters don't agree
 abbrev pub IsUnagreed : List ℕ → Type 0

@@ -3,8 +3,8 @@ pub mod Words
 pub mod Decode
 pub mod Runs
 pub mod Prepared
-pub mod Command
 pub mod Reading
+pub mod Command
 pub mod Kept
 pub mod Loads
 pub mod Top

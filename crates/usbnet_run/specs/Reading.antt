@@ -1,7 +1,15 @@
--- How the reading of a command's input ends where it isn't read whole.
+-- The reading of a command's input, and how it ends where it isn't read whole.
 use Rattle.std.specs.Prelude.{◌≡◌, ℕ, ◌+◌, ◌≤◌, List, length, codes, Option}
-use Rattle.usbnet_run.specs.Command.{MOST_INPUT}
+use Rattle.std.specs.Io.KnownBytes.{IsAtEnd}
 use Rattle.usbnet_run.specs.Refusals.{Tells}
+
+-- the most bytes of input
+abbrev pub MOST_INPUT : ℕ
+MOST_INPUT = 16777216
+
+-- the source gave its end, and what it gave in this call is no more than the most
+abbrev pub IsWhole : List ℕ → Option (List ℕ) → Type 0
+IsWhole given left = IsAtEnd left × (length given ≤ MOST_INPUT)
 
 -- memory ran out; a read failed; there was more than the most: of each the line was written
 pub data StopsReading (given : List ℕ) (held held' : Option (List ℕ)) (faults faults' : ℕ) : ℕ → Type 0 where

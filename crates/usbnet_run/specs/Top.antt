@@ -6,10 +6,10 @@ use Rattle.un_journal.specs.Script.{Script}
 use Rattle.un_journal.specs.History.{History}
 use Rattle.un_script.specs.Reading.{script_of}
 use Rattle.un_setup.specs.declared.agreement.Agreed.{Agreed}
-use Rattle.usbnet_run.specs.Command.{Ends, IsUnagreed, IsWhole, MOST_INPUT, RefusesExactly}
+use Rattle.usbnet_run.specs.Command.{Ends, IsUnagreed, RefusesExactly}
 use Rattle.usbnet_run.specs.Kept.{IsKept}
 use Rattle.usbnet_run.specs.Loads.{Loads}
-use Rattle.usbnet_run.specs.Reading.{StopsReading}
+use Rattle.usbnet_run.specs.Reading.{IsWhole, MOST_INPUT, StopsReading}
 use Rattle.usbnet_run.specs.Runs.{IsNoScript, IsRun, Runs, output}
 use Rattle.usbnet_run.specs.Words.{command_of, job_of}
 use Rattle.usbnet_run.specs.declared.words.Job.TheVariants.{Run, Load, Plain}

@@ -8,13 +8,11 @@ ghost use Rattle.usbnet_run.specs.Command.{DecodeIsComplete, Ends, IsComplete, R
 ghost use Rattle.usbnet_run.specs.Refusals.{Tells};
 
 use crate::decode::decode;
+use crate::reading::read_input;
 use crate::serial::serial;
 use crate::words::{Command, command_of};
 use std::alloc::Global;
-use un_io::{ReadError, Sink, Source, read_whole, write_whole};
-
-/// The most bytes of input.
-pub(crate) const MOST_INPUT: u64 = 16_777_216;
+use un_io::{Sink, Source, write_whole};
 
 /// Writes a refusal's line, or a front of it: the status stays the refusal's own where the write fails.
 pub(crate) fn tell<O: Sink>(out: &mut O, line: &[u8])
@@ -51,20 +49,9 @@ pub fn plain_command<I: Source, O: Sink>(
         tell(out, b"bad words\n");
         return 4;
     };
-    let text = match read_whole(alloc, input, MOST_INPUT) {
+    let text = match read_input(alloc, input, out) {
         Ok(text) => text,
-        Err(ReadError::ReadFault) => {
-            tell(out, b"read fault\n");
-            return 2;
-        }
-        Err(ReadError::TooLarge) => {
-            tell(out, b"too large\n");
-            return 7;
-        }
-        Err(ReadError::NoMemory) => {
-            tell(out, b"no memory\n");
-            return 1;
-        }
+        Err(status) => return status,
     };
     match command {
         Command::Serial => serial(alloc, out, text),

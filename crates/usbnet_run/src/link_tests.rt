@@ -9,7 +9,7 @@ use std::test::Fail;
 use un_frame::{Lane, Phase};
 use un_io::MemSink;
 use un_journal::{Action, Answer, Census, Got, Line, write_trace};
-use un_link::{Homes, Link};
+use un_link::{Homes, Link, ROUND};
 use un_script::read;
 use un_setup::agree;
 
@@ -276,75 +276,6 @@ fn a_suspend_waits(rt: HostRuntime) -> Result<(), Fail> {
     Ok(())
 }
 
-/// A round of the serial drain without its control.
-const ROUND: [Action; 25] = [
-    Action::Refill {
-        lane: Lane::Outward,
-    },
-    Action::Refill { lane: Lane::Inward },
-    Action::Offer {
-        lane: Lane::Outward,
-        sender: 0,
-    },
-    Action::Offer {
-        lane: Lane::Outward,
-        sender: 1,
-    },
-    Action::Offer {
-        lane: Lane::Outward,
-        sender: 2,
-    },
-    Action::Offer {
-        lane: Lane::Outward,
-        sender: 3,
-    },
-    Action::Offer {
-        lane: Lane::Inward,
-        sender: 0,
-    },
-    Action::Offer {
-        lane: Lane::Inward,
-        sender: 1,
-    },
-    Action::Offer {
-        lane: Lane::Inward,
-        sender: 2,
-    },
-    Action::Offer {
-        lane: Lane::Inward,
-        sender: 3,
-    },
-    Action::Tick {
-        lane: Lane::Outward,
-    },
-    Action::Tick { lane: Lane::Inward },
-    Action::Move {
-        lane: Lane::Outward,
-    },
-    Action::Move { lane: Lane::Inward },
-    Action::TxDone {
-        lane: Lane::Outward,
-    },
-    Action::TxDone { lane: Lane::Inward },
-    Action::RxDone {
-        lane: Lane::Outward,
-    },
-    Action::RxDone { lane: Lane::Inward },
-    Action::Deliver {
-        lane: Lane::Outward,
-    },
-    Action::Deliver { lane: Lane::Inward },
-    Action::Unlink {
-        lane: Lane::Outward,
-    },
-    Action::Unlink { lane: Lane::Inward },
-    Action::ClearHalt {
-        lane: Lane::Outward,
-    },
-    Action::ClearHalt { lane: Lane::Inward },
-    Action::Settle,
-];
-
 /// Does these actions, while the history has fewer lines than this.
 fn go_on(link: &mut Link, actions: &[Action], lines: u64)
     ensures { flights_of link.new ≡ flights_of link.old }
@@ -356,13 +287,13 @@ fn go_on(link: &mut Link, actions: &[Action], lines: u64)
     }
 }
 
-/// Goes on round by round until the history has so many lines; false where the rounds are quiet before. A round that isn't quiet writes at least one line.
+/// Goes on by rounds without their control until the history has so many lines; false where the rounds are quiet before. A round that isn't quiet writes at least one line.
 fn reaches(link: &mut Link, lines: u64) -> bool
     ensures { flights_of link.new ≡ flights_of link.old }
 {
     for round in 0..lines {
         let _ = round;
-        go_on(link, &ROUND, lines);
+        go_on(link, &ROUND[1..], lines);
     }
     link.journal().len() >= lines
 }

@@ -3,12 +3,14 @@
 ghost use Rattle.std.specs.Prelude.{◌≡◌, ◌≤◌, ℕ, List, Err, MatchResult};
 ghost use Rattle.std.specs.Io.KnownBytes.{Consumes};
 ghost use Rattle.un_io.specs.Io.{Rose};
-ghost use Rattle.usbnet_run.specs.Command.{IsWhole};
-ghost use Rattle.usbnet_run.specs.Reading.{StopsReading};
+ghost use Rattle.usbnet_run.specs.Reading.{IsWhole, StopsReading};
 
-use crate::command::{MOST_INPUT, tell};
+use crate::command::tell;
 use std::alloc::Global;
 use un_io::{ReadError, Sink, Source, read_whole};
+
+/// The most bytes of input.
+const MOST_INPUT: u64 = 16_777_216;
 
 /// Reads a source to its end. Where that can't be had, a refusal's status comes with its line, or a front of it, in the sink: 1 for want of memory; 2 where a read failed; 7 where there were more than
 /// 16,777,216 bytes.

@@ -15,8 +15,8 @@ use un_endpoint::{RxEnd, TxEnd};
 use un_frame::Lane;
 use un_journal::{Action, Answer};
 
-/// A round of the drain: every action once, in this order.
-const ROUND: [Action; 26] = [
+/// A round of the serial drain: the 26 actions, each once, in this order; the first is the control's. The order is this project's own.
+pub const ROUND: [Action; 26] = [
     Action::Control { force: false },
     Action::Refill {
         lane: Lane::Outward,

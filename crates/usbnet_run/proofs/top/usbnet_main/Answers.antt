@@ -2,7 +2,7 @@ use Rattle.std.proofs.Common.{[], refl, sym}
 use Rattle.un_io.proofs.Known.{Consumes-none}
 use Rattle.usbnet_run.specs.Kept.{IsKept}
 use Rattle.usbnet_run.specs.Top.{MainEnds}
-use Rattle.usbnet_run.proofs.Eleven.{runs_from}
+use Rattle.usbnet_run.proofs.Endings.{runs_from}
 use Rattle.usbnet_run.proofs.top.usbnet_main.Goals as goal
 
 pub returns-in-Err-clause-ends : goal.returns-in-Err-clause-ends
