@@ -10,8 +10,6 @@ mod offer;
 mod orders;
 mod room;
 mod task;
-#[cfg(test)]
-mod tests;
 mod transfer;
 mod work;
 
