@@ -3,7 +3,7 @@
 
 Needs the proved build (./usbnet --build) and coreutils' basenc. The script's last line is refused, so that `usbnet serial` reads all
 of it, keeps every frame, and then runs nothing. Prints the best of five times of the program and of a round trip of the script's bytes
-through hexadecimal digits (bytes to digits and back to bytes), and the program's peak memory.
+through hexadecimal digits (bytes to digits and back to bytes), and the peak memory of both.
 """
 import os
 import sys
@@ -27,9 +27,9 @@ def main():
         with open(told) as answer:
             if answer.read() != f"bad script {FRAMES + 2} control\n":
                 sys.exit("another answer")
-        plain, _ = serial.best(["sh", "-c", "basenc --base16 -w0 | basenc --base16 -d"], script, os.devnull)
+        plain, least = serial.best(["sh", "-c", "basenc --base16 -w0 | basenc --base16 -d"], script, os.devnull)
         size = os.path.getsize(script)
-        print(f"{FRAMES:,} frames of {LENGTH:,} bytes: {size:,} bytes; read {spent * 1000:.0f} ms, {peak / 1024:.0f} MB; hex round trip {plain * 1000:.0f} ms")
+        print(f"{FRAMES:,} frames of {LENGTH:,} bytes: {size:,} bytes; read {spent * 1000:.0f} ms, {peak / 1024:.0f} MB; hex round trip {plain * 1000:.0f} ms, {least / 1024:.0f} MB")
 
 
 if __name__ == "__main__":

@@ -2,7 +2,7 @@
 """Times `usbnet serial` on large scripts beside a plain hex round trip of the same frames.
 
 Needs the proved build (./usbnet --build) and coreutils' basenc. Prints, for each script, its size and that of the output, the best of
-five times of the program and of the round trip (the frames' digits to bytes and back to digits), and the program's peak memory.
+five times of the program and of the round trip (the frames' digits to bytes and back to digits), and the peak memory of both.
 The scripts grow, so that the cost for each frame can be compared.
 """
 import os
@@ -53,9 +53,9 @@ def main():
             with open(digits, "w") as out:
                 out.write(frame.upper() * count)
             spent, peak = best([BINARY, "serial"], script, trace)
-            plain, _ = best(["sh", "-c", "basenc --base16 -d | basenc --base16 -w0"], digits, os.devnull)
+            plain, least = best(["sh", "-c", "basenc --base16 -d | basenc --base16 -w0"], digits, os.devnull)
             size = os.path.getsize(script)
-            print(f"{name}: {size:,} bytes in, {os.path.getsize(trace):,} out; serial {spent * 1000:.0f} ms, {peak / 1024:.0f} MB; hex round trip {plain * 1000:.0f} ms")
+            print(f"{name}: {size:,} bytes in, {os.path.getsize(trace):,} out; serial {spent * 1000:.0f} ms, {peak / 1024:.0f} MB; hex round trip {plain * 1000:.0f} ms, {least / 1024:.0f} MB")
 
 
 if __name__ == "__main__":
