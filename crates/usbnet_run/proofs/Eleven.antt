@@ -77,6 +77,6 @@ prints_lent script lent-script agreed history lent held held' status a b t =
 
 pub run_kept : (text : List ℕ) (link : Link) (agreed : Agreed) (old held held' : Option (List ℕ)) (rose faults faults' status : ℕ) → IsPrepared text link agreed → held ≡ old → faults ≡ rose
     → PrintsKept link.script agreed held held' faults faults' status → Runs IsKept text old held' rose faults' status
-run_kept text link agreed old held held' rose faults faults' _ p h k (prints_kept history status kept t) =
-    runs_of IsKept text link.script agreed history old held' rose faults' status (run_of IsKept text link agreed history p kept (kept_is_done link.script history kept)) (prints_from _ _ _ _ _ _ status h t)
+run_kept text link agreed old held held' rose faults faults' _ p h k (prints_kept history status kept entries t) =
+    runs_of IsKept text link.script agreed history old held' rose faults' status (run_of IsKept text link agreed history p kept (kept_is_done link.script history kept) entries) (prints_from _ _ _ _ _ _ status h t)
 run_kept text link agreed old held held' rose faults faults' _ p h k (wants_turn t) = Runs.refused 1 (Refuses.wants_memory (tells_from _ _ _ _ _ _ _ h k t))

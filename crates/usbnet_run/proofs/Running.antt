@@ -9,6 +9,7 @@ use Rattle.un_journal.specs.History.{History}
 use Rattle.un_journal.specs.Drain.{drain}
 use Rattle.un_journal.specs.Done.{NoneFlies}
 use Rattle.un_journal.specs.Fits.{IsDone, Legal}
+use Rattle.un_journal.specs.Log.{AreEntries}
 use Rattle.un_journal.specs.Loss.{LosesNothing}
 use Rattle.un_journal.proofs.Drained.{drain_done}
 use Rattle.un_journal.proofs.NoLoss.{nothing_lost}
@@ -43,13 +44,14 @@ agreed_params params agreed e = (agreed_is params agreed e).params_are
 
 -- a done history that a command ends with belongs to a prepared link's script
 pub run_of : (EndsWith : Script → History → Type 0) (text : List ℕ) (link : Link) (agreed : Agreed) (history : History) → IsPrepared text link agreed
-    → EndsWith link.script history → IsDone link.script history → IsRun EndsWith text link.script agreed history
-run_of EndsWith text link agreed history p ends done = record {
+    → EndsWith link.script history → IsDone link.script history → AreEntries history → IsRun EndsWith text link.script agreed history
+run_of EndsWith text link agreed history p ends done entries = record {
   script_is = p.script_is;
   agrees = p.agrees;
   agreed_is = p.agreed_is;
   ends_with = ends;
   is_done = done;
+  entries = entries;
   loses_nothing = gives_all link.script history p.in_range done;
 }
 

@@ -5,6 +5,7 @@ use Rattle.un_journal.specs.History.{History}
 use Rattle.un_journal.specs.Drain.{drain}
 use Rattle.un_journal.specs.Done.{NoneFlies}
 use Rattle.un_journal.specs.Fits.{Legal}
+use Rattle.un_journal.specs.Log.{AreEntries}
 use Rattle.un_setup.specs.declared.agreement.Agreed.{Agreed}
 use Rattle.usbnet_run.specs.Refusals.{Tells}
 use Rattle.usbnet_run.specs.Runs.{Prints}
@@ -18,5 +19,5 @@ pub record IsKept (script : Script) (history : History) : Type 0 where
 
 -- how the workers' run of a link ends: its one history was printed, or memory ran out
 pub data PrintsKept (script : Script) (agreed : Agreed) (held held' : Option (List ℕ)) (faults faults' : ℕ) : ℕ → Type 0 where
-  prints_kept : (history : History) (status : ℕ) → IsKept script history → Prints script agreed history held held' status → PrintsKept script agreed held held' faults faults' status
+  prints_kept : (history : History) (status : ℕ) → IsKept script history → AreEntries history → Prints script agreed history held held' status → PrintsKept script agreed held held' faults faults' status
   wants_turn : Tells held held' faults faults' (codes "no memory\n") → PrintsKept script agreed held held' faults faults' 1

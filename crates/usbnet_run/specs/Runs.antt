@@ -9,6 +9,7 @@ use Rattle.un_journal.specs.Script.{Script, frames_of}
 use Rattle.un_journal.specs.History.{History, past, taken, given, row_from}
 use Rattle.un_journal.specs.Loss.{LosesNothing, accepted, good_frames}
 use Rattle.un_journal.specs.Fits.{IsDone}
+use Rattle.un_journal.specs.Log.{AreEntries}
 use Rattle.un_journal.specs.Text.{trace}
 use Rattle.un_script.specs.declared.why.Why.{Why}
 use Rattle.un_script.specs.declared.why.Why.TheVariants.{Word, Order, Number, Range, Hex, Count, Control, Fault}
@@ -59,7 +60,7 @@ pub record GivesAll (script : Script) (history : History) : Type 0 where
   pub all_given : (lane : Lane) → given (past lane history) ≡ row_from 0 (taken (past lane history))
   pub all_accepted : (lane : Lane) (sender : ℕ) → accepted script lane (past lane history) sender ≡ good_frames script.params lane (frames_of script lane sender)
 
--- What is printed belongs to what was read: the two ends agree, the history is one that the command ends with, and no step fits after it. Where no fault is planned, nothing is stopped, cut
+-- What is printed belongs to what was read: the two ends agree, the history is one that the command ends with and that a journal keeps, and no step fits after it. Where no fault is planned, nothing is stopped, cut
 -- or unplugged and the link ends awake, it loses nothing.
 pub record IsRun (EndsWith : Script → History → Type 0) (given' : List ℕ) (script : Script) (agreed : Agreed) (history : History) : Type 0 where
   pub script_is : script_of given' ≡ Ok script
@@ -67,6 +68,7 @@ pub record IsRun (EndsWith : Script → History → Type 0) (given' : List ℕ) 
   pub agreed_is : agreed_of script.params ≡ Ok agreed
   pub ends_with : EndsWith script history
   pub is_done : IsDone script history
+  pub entries : AreEntries history
   pub loses_nothing : LosesNothing script → GivesAll script history
 
 -- the text of no script

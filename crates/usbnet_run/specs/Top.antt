@@ -6,7 +6,7 @@ use Rattle.un_journal.specs.Script.{Script}
 use Rattle.un_journal.specs.History.{History}
 use Rattle.un_script.specs.Reading.{script_of}
 use Rattle.un_setup.specs.declared.agreement.Agreed.{Agreed}
-use Rattle.usbnet_run.specs.Command.{Ends, IsUnagreed, RefusesExactly}
+use Rattle.usbnet_run.specs.Command.{Ends, IsDrained, IsUnagreed, RefusesExactly}
 use Rattle.usbnet_run.specs.Kept.{IsKept}
 use Rattle.usbnet_run.specs.Loads.{Loads}
 use Rattle.usbnet_run.specs.Reading.{IsWhole, MOST_INPUT, StopsReading}
@@ -47,6 +47,17 @@ pub record HasPrintedKept (text : List ℕ) (script : Script) (held held' : Opti
   pub history : History
   pub is_run : IsRun IsKept text script agreed history
   pub all : Appends held held' (output script agreed history)
+
+-- the text begins with what serial or run prints of a history, and goes on in any way
+pub data BeginsWithOutput (text : List ℕ) (history : History) : Type 0 where
+  of_serial : (given more : List ℕ) (script : Script) (agreed : Agreed) → IsRun IsDrained given script agreed history
+      → text ≡ output script agreed history ++ more → BeginsWithOutput text history
+  of_run : (given more : List ℕ) (script : Script) (agreed : Agreed) → IsRun IsKept given script agreed history
+      → text ≡ output script agreed history ++ more → BeginsWithOutput text history
+
+-- A text tells one history: two runs whose outputs begin it have the same history, whatever their scripts are.
+abbrev pub HistoryIsOne : Type 0
+HistoryIsOne = (text : List ℕ) (g h : History) → BeginsWithOutput text g → BeginsWithOutput text h → g ≡ h
 
 -- Completeness: where the words ask for a run, the source told a script's text that isn't too long and whose parameters agree, a status that isn't a fault's is 0, or
 -- want of memory's; and at 0 the whole text was read, and the sink grew by the output of one history, which is done.

@@ -5,6 +5,7 @@ ghost use Rattle.un_frame.specs.Params.{AreInRange};
 ghost use Rattle.un_io.specs.Io.{Rose};
 ghost use Rattle.un_journal.specs.Drain.{drain};
 ghost use Rattle.un_journal.specs.Fits.{Legal};
+ghost use Rattle.un_journal.specs.Log.{AreEntries};
 ghost use Rattle.usbnet_run.specs.Command.{IsDrained};
 ghost use Rattle.usbnet_run.specs.Prepared.{IsNew};
 ghost use Rattle.usbnet_run.specs.Runs.{Prints, Runs};
@@ -22,9 +23,11 @@ pub fn print<O: Sink>(out: &mut O, script: &Script, agreed: &Agreed, journal: &J
     requires legal { Legal script.now journal.now.history }
     requires in_range { AreInRange agreed.now.params }
     ensures prints { Prints script.now agreed.now journal.now.history (O.held out.old) (O.held out.new) result }
+    ensures entries { AreEntries journal.now.history }
     ensures never_falls { O.faults out.old ≤ O.faults out.new }
     ensures cause { result ≡ 3 → Rose (O.faults out.old) (O.faults out.new) }
 {
+    journal.keeps_entries();
     let Ok(()) = write_trace(out, journal) else {
         return 3;
     };
@@ -39,6 +42,7 @@ fn drain_and_print<O: Sink>(out: &mut O, prepared: Prepared) -> u8
     requires new { IsNew prepared.link.script prepared.link }
     requires in_range { AreInRange prepared.agreed.params }
     ensures prints { Prints prepared.link.script prepared.agreed (drain prepared.link.script []) (O.held out.old) (O.held out.new) result }
+    ensures entries { AreEntries (drain prepared.link.script []) }
     ensures never_falls { O.faults out.old ≤ O.faults out.new }
     ensures cause { result ≡ 3 → Rose (O.faults out.old) (O.faults out.new) }
 {

@@ -4,7 +4,7 @@ ghost use Rattle.std.specs.Prelude.{◌≡◌, ◌≤◌, ℕ, List, map};
 ghost use Rattle.std.specs.String.{string_bytes};
 ghost use Rattle.std.specs.Io.KnownBytes.{Consumes};
 ghost use Rattle.un_io.specs.Io.{Rose};
-ghost use Rattle.usbnet_run.specs.Top.{MainEnds, MainRefusalsAreExact, RunIsComplete};
+ghost use Rattle.usbnet_run.specs.Top.{HistoryIsOne, MainEnds, MainRefusalsAreExact, RunIsComplete};
 
 use crate::command::plain_command;
 use crate::load::load;
@@ -55,6 +55,11 @@ pub fn usbnet_main<R: Threads + Wait + Sync, I: Source, O: Sink, G: Gate + Sync>
 /// A run does its work wherever it can.
 pub fn run_is_complete()
     ensures { RunIsComplete }
+{}
+
+/// A printed text tells one history: two runs whose outputs begin one text have the same history.
+pub fn the_history_is_one()
+    ensures { HistoryIsOne }
 {}
 
 /// Each refusal of the whole program comes exactly where it is due, but for want of memory and a read fault.
