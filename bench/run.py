@@ -29,8 +29,7 @@ def main():
     with tempfile.TemporaryDirectory() as room:
         script = os.path.join(room, "script")
         for name, count, length in SCRIPTS:
-            with open(script, "w") as out:
-                out.write("class ncm16\n" + f"out 0 {serial.HEADER}{'00' * (length - 14)}\n" * count)
+            serial.write(script, "class ncm16\n", f"out 0 {serial.HEADER}{'00' * (length - 14)}\n", count)
             print(f"{name}: serial {told(['serial'], script)}; run {told(['run'], script)}", flush=True)
         print(f"load 65536: {told(['load', '65536'], os.devnull)}")
 

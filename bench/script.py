@@ -21,8 +21,9 @@ def main():
     with tempfile.TemporaryDirectory() as room:
         script, told = (os.path.join(room, name) for name in ("script", "told"))
         frame = serial.HEADER + "00" * (LENGTH - 14)
-        with open(script, "w") as out:
-            out.write("class ecm\n" + f"out 0 {frame}\n" * FRAMES + "at out 0 resume\n")
+        serial.write(script, "class ecm\n", f"out 0 {frame}\n", FRAMES)
+        with open(script, "a") as out:
+            out.write("at out 0 resume\n")
         spent, peak = serial.best([serial.BINARY, "serial"], script, told, 5)
         with open(told) as answer:
             if answer.read() != f"bad script {FRAMES + 2} control\n":

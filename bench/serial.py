@@ -22,6 +22,14 @@ SCRIPTS = [
 ]
 
 
+def write(name, head, piece, count):
+    """A file of a head and so many pieces. Never in memory as a whole: a child's peak memory begins with its parent's."""
+    with open(name, "w") as out:
+        out.write(head)
+        for _ in range(count):
+            out.write(piece)
+
+
 def run(words, source, sink, wanted=0):
     """The seconds and the peak memory in KiB of one run, which has to end with the wanted status."""
     with open(source, "rb") as given, open(sink, "wb") as taken:
@@ -48,10 +56,8 @@ def main():
         script, digits, trace = (os.path.join(room, name) for name in ("script", "digits", "trace"))
         for name, count, length in SCRIPTS:
             frame = HEADER + "00" * (length - 14)
-            with open(script, "w") as out:
-                out.write("class ecm\n" + f"out 0 {frame}\n" * count)
-            with open(digits, "w") as out:
-                out.write(frame.upper() * count)
+            write(script, "class ecm\n", f"out 0 {frame}\n", count)
+            write(digits, "", frame.upper(), count)
             spent, peak = best([BINARY, "serial"], script, trace)
             plain, least = best(["sh", "-c", "basenc --base16 -d | basenc --base16 -w0"], digits, os.devnull)
             size = os.path.getsize(script)
