@@ -1,3 +1,4 @@
 pub mod Setup
 pub mod Requests
 pub mod Control
+pub mod Notes

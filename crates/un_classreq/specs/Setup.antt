@@ -3,6 +3,16 @@ use Rattle.std.specs.Prelude.{ℕ, List, ◌∷◌, ◌++◌, slice_index}
 use Rattle.un_frame.specs.Bytes.{number_at, number_bytes}
 use Rattle.un_classreq.specs.declared.setup.Setup.{Setup}
 
+-- the packet of these fields
+abbrev pub packet : ℕ → ℕ → ℕ → ℕ → ℕ → Setup
+packet request_type request value index size = record {
+  request_type = request_type;
+  request = request;
+  value = value;
+  index = index;
+  length = size;
+}
+
 -- its eight bytes
 abbrev pub setup_bytes : Setup → List ℕ
 setup_bytes s = s.request_type ∷ s.request ∷ number_bytes 2 s.value ++ number_bytes 2 s.index ++ number_bytes 2 s.length

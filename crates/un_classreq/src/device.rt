@@ -7,14 +7,15 @@ ghost use Rattle.un_desc.specs.Configuration.{configuration};
 ghost use Rattle.un_frame.specs.Params.{AreInRange};
 
 use crate::bytes::{push_long, push_short};
+use crate::notes::connection;
 use crate::request::{Request, parameters};
 use crate::setup::Setup;
 use crate::state::State;
 use std::alloc::{AllocError, Global};
 use std::marker::Model;
-use un_frame::{Bytes, Params};
+use un_frame::{Bytes, Class, Params};
 
-/// Why the device stalls: the first of these that applies (this project's own).
+/// Why the device stalls: the first of these that applies.
 #[derive(Clone, Copy, Debug, PartialEq, Eq)]
 pub enum Why {
     /// It doesn't know the request, or not in its class.
@@ -124,6 +125,7 @@ impl Model for Device {
 
 impl Device {
     ghost use Rattle.un_classreq.specs.Control.{Answers, controlled, first_gadget};
+    ghost use Rattle.un_classreq.specs.Notes.{notes_of};
 
     /// A device with these parameters, which are in their ranges: with its configuration at hand and in no configuration,
     /// setting 0, filter 0, format 0, and the sizes of the parameters. An error is want of memory.
@@ -172,5 +174,21 @@ impl Device {
         bytes.truncate(setup.length as usize);
         self.state = accepted.next;
         Reply::Sent(Bytes::make(bytes))
+    }
+
+    /// The notifications that the device sends in its state, in their order: with the data interface in alternate setting
+    /// 1 a device of ECM or NCM sends CONNECTION_SPEED_CHANGE, of 480,000,000 bits each second in both directions (ECM 1.2,
+    /// 6.3.3), and then NETWORK_CONNECTION (ECM 1.2, 6.3.1). In setting 0 it sends none, and a device of EEM none at all. An
+    /// error is want of memory.
+    pub fn notes(&self, alloc: Global) -> Result<Vec<Bytes>, AllocError>
+        ensures { IfOk result (λ v. v.items ≡ notes_of self.now) }
+    {
+        if self.state.setting != 1 {
+            return Ok(Vec::new(alloc));
+        }
+        match self.params.class {
+            Class::Eem => Ok(Vec::new(alloc)),
+            Class::Ecm | Class::Ncm16 | Class::Ncm32 => connection(alloc),
+        }
     }
 }

@@ -51,7 +51,7 @@ pub enum Part {
 }
 
 /// Why a configuration is refused: the first fault of its bytes, and else the first part that is missing, in the order
-/// of `Part`, with `Unknown` after `Control` (this project's own).
+/// of `Part`, with `Unknown` after `Control`.
 #[derive(Clone, Copy, Debug, PartialEq, Eq)]
 pub enum DescFault {
     /// Fewer than 2 bytes are left for the descriptor at this byte, or it goes past the end.

@@ -172,8 +172,8 @@ const COMMUNICATIONS: u8 = 0x02;
 /// The class code of an interface for data (CDC 1.2, 4.5).
 const DATA: u8 = 0x0a;
 
-/// The address of the bulk IN endpoint (this project's own).
+/// The address of the bulk IN endpoint.
 const BULK_IN: u8 = 0x81;
 
-/// The address of the bulk OUT endpoint (this project's own).
+/// The address of the bulk OUT endpoint.
 const BULK_OUT: u8 = 0x01;

@@ -1,5 +1,5 @@
 -- What a set-up agrees on, and why there is no agreement.
-use Rattle.std.specs.Prelude.{◌≡◌, ◌+◌, Bool, ◌&&◌, [], ◌∷◌, nat_lt, nat_le, if◌then◌else◌, Result, Ok, Err}
+use Rattle.std.specs.Prelude.{◌≡◌, ◌+◌, Bool, ◌&&◌, List, [], ◌∷◌, nat_lt, nat_le, if◌then◌else◌, Result, Ok, Err}
 use Rattle.un_frame.specs.Ntb.{Format, ntb16, ntb32}
 use Rattle.un_frame.specs.NtbForm.{closed_size, datagram_place}
 use Rattle.un_frame.specs.Params.{Agree, is_one_of, layout_of}
@@ -10,7 +10,12 @@ use Rattle.un_desc.specs.Configuration.{function}
 use Rattle.un_setup.specs.declared.agreement.Agreed.{Agreed}
 use Rattle.un_setup.specs.declared.agreement.SetupFault.{SetupFault}
 use Rattle.un_setup.specs.declared.agreement.SetupFault.TheVariants.{BadDivisor, BadAlignment, NoFit, NoMemory}
-use Rattle.un_setup.specs.Exchanges.{exchanges_of, notes_as}
+use Rattle.un_desc.specs.declared.function.Function.{Function}
+use Rattle.un_desc.specs.Reading.{function_of}
+use Rattle.un_classreq.specs.Control.{first_gadget}
+use Rattle.un_classreq.specs.Notes.{notes_as, notes_of}
+use Rattle.un_setup.specs.declared.exchange.Exchange.{Exchange}
+use Rattle.un_setup.specs.Exchanges.{exchanged, exchanges_of, ready, steps_of}
 
 infixl 10 ◌>>=◌
 abbrev pub ◌>>=◌ : {A B : Type 0} → Result A SetupFault → (A → Result B SetupFault) → Result B SetupFault
@@ -20,7 +25,7 @@ abbrev pub ◌>>=◌ : {A B : Type 0} → Result A SetupFault → (A → Result 
 abbrev pub needs : SetupFault → Bool → Result (Unit {0}) SetupFault
 needs fault holds = if holds then Ok tt else Err fault
 
--- the three tests of a block format's parameters, in their order (this project's own)
+-- the three tests of a block format's parameters, in their order
 abbrev pub has_divisor : Params → Bool
 has_divisor p = is_one_of p.divisor (1 ∷ 2 ∷ 4 ∷ 8 ∷ 16 ∷ 32 ∷ 64 ∷ []) && nat_lt p.remainder p.divisor
 
@@ -57,6 +62,19 @@ unfoldable pub agreed_of : Params → Result Agreed SetupFault
 agreed_of p = do
   tested ← tested_as p.class p
   Ok (agreement p)
+
+-- the host reads the function from what the first exchange brought
+abbrev pub ReadsFirst : List Exchange → Function → Type 0
+ReadsFirst [] f = ⊥
+ReadsFirst (e ∷ es) f = function_of e.payload ≡ Ok f
+
+-- where it comes from: a new device answers the host's steps in turn, these are the exchanges, the function is read from
+-- the first of them, and the notifications are those of the device after the last
+pub record IsSetUp (p : Params) (a : Agreed) : Type 0 where
+  pub params : a.params ≡ p
+  pub crossed : exchanged (first_gadget p) (steps_of p) ≡ Ok (record { gadget = ready p; exchanges = a.exchanges })
+  pub read : ReadsFirst a.exchanges a.function
+  pub told : a.notes ≡ notes_of (ready p)
 
 -- a call answers that; it wants memory only where there is an agreement
 abbrev pub IsAgreed : Result Agreed SetupFault → Type 0

@@ -1,6 +1,6 @@
 -- The set-up of a link: which requests the host sends, in order, and what crosses the bus with each. The order is this
 -- project's own.
-use Rattle.std.specs.Prelude.{◌≡◌, ℕ, List, [], ◌∷◌, ◌++◌, map, if◌then◌else◌, Result, Ok}
+use Rattle.std.specs.Prelude.{◌≡◌, ◌≤◌, ℕ, List, [], ◌∷◌, length, take, map, if◌then◌else◌, Result, Ok, Err}
 use Rattle.un_frame.specs.Bytes.{number_bytes}
 use Rattle.un_frame.specs.declared.params.Params.{Params}
 use Rattle.un_frame.specs.declared.params.Class.{Class}
@@ -9,18 +9,13 @@ use Rattle.un_desc.specs.Configuration.{configuration}
 use Rattle.un_classreq.specs.declared.setup.Setup.{Setup}
 use Rattle.un_classreq.specs.declared.device.Why.{Why}
 use Rattle.un_classreq.specs.Requests.{ntb_parameters}
-use Rattle.un_classreq.specs.Setup.{setup_bytes}
-use Rattle.un_classreq.specs.Control.{◌>>=◌, Gadget, controlled, first_gadget, is_from_device}
+use Rattle.un_classreq.specs.Setup.{packet}
+use Rattle.un_classreq.specs.Control.{◌>>=◌, Gadget, controlled, first_gadget, first_state, is_from_device}
+use Rattle.un_classreq.specs.Notes.{notes_as, notes_of}
+use Rattle.un_classreq.specs.declared.state.State.{State}
 use Rattle.un_setup.specs.declared.exchange.Exchange.{Exchange}
-
-abbrev pub packet : ℕ → ℕ → ℕ → ℕ → ℕ → Setup
-packet request_type request value index size = record {
-  request_type = request_type;
-  request = request;
-  value = value;
-  index = index;
-  length = size;
-}
+use Rattle.un_setup.specs.declared.exchange.ExchangeFault.{ExchangeFault}
+use Rattle.un_setup.specs.declared.exchange.ExchangeFault.TheVariants.{Stalled, NoMemory}
 
 abbrev pub exchange : Setup → List ℕ → Exchange
 exchange setup payload = record { setup = setup; payload = payload }
@@ -120,27 +115,45 @@ crossing gadget step = do
   answer ← controlled gadget step.setup step.payload
   Ok (record { gadget = answer.gadget; exchange = crossed step answer.bytes })
 
--- what crosses with steps one after the other, as long as the device stalls at none
-unfoldable pub exchanged : Gadget → List Exchange → Result (List Exchange) Why
-exchanged gadget [] = Ok []
+-- what crosses with steps one after the other, and the device after the last; else why it stalls at the first that it
+-- stalls at
+pub record Session : Type 0 where
+  pub gadget : Gadget
+  pub exchanges : List Exchange
+
+abbrev pub with_first : Exchange → Session → Session
+with_first e s = record s { exchanges = e ∷ s.exchanges }
+
+unfoldable pub exchanged : Gadget → List Exchange → Result Session Why
+exchanged gadget [] = Ok (record { gadget = gadget; exchanges = [] })
 exchanged gadget (step ∷ steps) =
-    crossing gadget step >>= λ one. (exchanged one.gadget steps >>= λ rest. Ok (one.exchange ∷ rest))
+    crossing gadget step >>= λ one. (exchanged one.gadget steps >>= λ rest. Ok (with_first one.exchange rest))
 
--- a device with parameters in range answers each step of the host, and these are the exchanges of its class
-abbrev pub ExchangeSucceeds : Params → Type 0
-ExchangeSucceeds p = exchanged (first_gadget p) (steps_of p) ≡ Ok (exchanges_of p)
+-- where no more crosses, the device is as the first so many steps left it
+pub record StopsAt (old new : Gadget) (steps : List Exchange) (count : ℕ) : Type 0 where
+  pub within : count ≤ length steps
+  pub done : List Exchange
+  pub crossed : exchanged old (take count steps) ≡ Ok (record { gadget = new; exchanges = done })
 
--- The notifications after the set-up: the speed of both directions, in bits each second (ECM 1.2, 6.3.3), and that the
--- network is there (ECM 1.2, 6.3.1). EEM has no endpoint for them.
-abbrev pub BIT_RATE : ℕ
-BIT_RATE = 480000000
+abbrev pub HasStopped : Gadget → Gadget → List Exchange → Type 0
+HasStopped old new steps = (count : ℕ) × StopsAt old new steps count
 
-abbrev pub speed_change : List ℕ
-speed_change = setup_bytes (packet 0xa1 0x2a 0 0 8) ++ number_bytes 4 BIT_RATE ++ number_bytes 4 BIT_RATE
+abbrev pub Stalls : {A : Type 0} → Result A Why → ExchangeFault → Type 0
+Stalls answer (Stalled why) = answer ≡ Err why
+Stalls answer NoMemory = Unit {0}
 
-abbrev pub connected : List ℕ
-connected = setup_bytes (packet 0xa1 0x00 1 0 0)
+-- the state that the steps of each class leave
+abbrev pub ready_as : Class → Params → State
+ready_as Eem p = record (first_state p) { configuration = 1 }
+ready_as Ncm32 p = record (first_state p) { configuration = 1; setting = 1; filter = p.filter; format = 1 }
+ready_as class p = record (first_state p) { configuration = 1; setting = 1; filter = p.filter }
 
-abbrev pub notes_as : Class → List (List ℕ)
-notes_as Eem = []
-notes_as class = speed_change ∷ connected ∷ []
+-- a device that was set up
+abbrev pub ready : Params → Gadget
+ready p = record { params = p; state = ready_as p.class p }
+
+-- a new device with parameters in range answers each step of the host, these are the exchanges of its class, and then
+-- it has these notifications to send
+pub record ExchangeSucceeds (p : Params) : Type 0 where
+  pub crossed : exchanged (first_gadget p) (steps_of p) ≡ Ok (record { gadget = ready p; exchanges = exchanges_of p })
+  pub told : notes_of (ready p) ≡ notes_as p.class

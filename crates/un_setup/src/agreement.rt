@@ -18,7 +18,7 @@ pub struct Agreed {
     pub notes: Notes,
 }
 
-/// Why there is no agreement: the first that applies, of NCM alone (this project's own; the fields are those of NCM 1.0,
+/// Why there is no agreement: the first that applies, of NCM alone (the fields are those of NCM 1.0,
 /// table 6-3).
 #[derive(Clone, Copy, Debug, PartialEq, Eq, Error)]
 pub enum SetupFault {

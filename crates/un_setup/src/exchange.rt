@@ -3,7 +3,8 @@
 ghost use Rattle.std.specs.Prelude.{◌≡◌};
 
 use std::marker::Model;
-use un_classreq::Setup;
+use thiserror::Error;
+use un_classreq::{Setup, Why};
 use un_frame::Bytes;
 
 /// A set-up packet, and the bytes that crossed with it in either direction.
@@ -11,6 +12,17 @@ use un_frame::Bytes;
 pub struct Exchange {
     pub setup: Setup,
     pub payload: Bytes,
+}
+
+/// Why no more crossed.
+#[derive(Clone, Copy, Debug, PartialEq, Eq, Error)]
+pub enum ExchangeFault {
+    /// The device stalled at a step.
+    #[error("the device stalled: {0:?}")]
+    Stalled(Why),
+    /// Memory ran out.
+    #[error("out of memory")]
+    NoMemory,
 }
 
 /// Exchanges in their order, which a contract sees as their list.

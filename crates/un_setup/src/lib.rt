@@ -4,11 +4,13 @@
 mod agreement;
 mod exchange;
 mod host;
+mod laws;
 mod steps;
 mod tested;
 #[cfg(test)]
 mod tests;
 
 pub use agreement::{Agreed, SetupFault};
-pub use exchange::{Exchange, Exchanges, Notes};
-pub use host::agree;
+pub use exchange::{Exchange, ExchangeFault, Exchanges, Notes};
+pub use host::{agree, exchange_steps};
+pub use laws::exchanges_succeed;

@@ -1,9 +1,10 @@
-//! What the host sends, in order (this project's own).
+//! What the host sends, in order.
 
 ghost use Rattle.std.specs.Prelude.{◌≡◌, ◌++◌, ◌∷◌, [], IfOk, OnOk};
+ghost use Rattle.un_classreq.specs.Setup as SetupBytes;
 ghost use Rattle.un_frame.specs.Bytes.{number_bytes};
 ghost use Rattle.un_frame.specs.Params.{AreInRange};
-ghost use Rattle.un_setup.specs.Exchanges.{notes_as, steps_of};
+ghost use Rattle.un_setup.specs.Exchanges.{steps_of};
 
 use crate::exchange::Exchange;
 use byteorder::{ByteOrder, LittleEndian};
@@ -13,7 +14,7 @@ use un_frame::{Bytes, Class, Params};
 
 /// A set-up packet.
 fn packet(request_type: u8, request: u8, value: u16, index: u16, length: u16) -> Setup
-    ensures { result ≡ Rattle.un_setup.specs.Exchanges.packet request_type request value index length }
+    ensures { result ≡ SetupBytes.packet request_type request value index length }
 {
     Setup {
         request_type,
@@ -138,40 +139,5 @@ pub fn steps(alloc: Global, params: &Params) -> Result<Vec<Exchange>, AllocError
         Class::Eem => eem(alloc),
         Class::Ncm16 => ncm(alloc, 0, params.block, segment, params.filter),
         Class::Ncm32 => ncm(alloc, 1, params.block, segment, params.filter),
-    }
-}
-
-/// The bits each second in both directions that the device notifies of (this project's own).
-const BIT_RATE: u32 = 480_000_000;
-
-/// CONNECTION_SPEED_CHANGE (ECM 1.2, 6.3.3).
-fn speed_change(alloc: Global) -> Result<Vec<u8>, AllocError>
-    ensures { IfOk result (λ v. v.items ≡ Rattle.un_setup.specs.Exchanges.speed_change) }
-{
-    let mut bytes = Vec::from_slice(alloc, &packet(0xa1, 0x2a, 0, 0, 8).to_bytes())?;
-    let rate = long(alloc, BIT_RATE)?;
-    bytes.extend_from_slice(&rate)?;
-    bytes.extend_from_slice(&rate)?;
-    Ok(bytes)
-}
-
-/// The notifications of a connection: its speed, and that it is there (NETWORK_CONNECTION: ECM 1.2, 6.3.1).
-fn connection_notes(alloc: Global) -> Result<Vec<Bytes>, AllocError>
-    ensures { IfOk result (λ v. v.items ≡ Rattle.un_setup.specs.Exchanges.speed_change ∷ Rattle.un_setup.specs.Exchanges.connected ∷ []) }
-{
-    let mut notes = Vec::new(alloc);
-    notes.push(Bytes::make(speed_change(alloc)?))?;
-    let connected = packet(0xa1, 0x00, 1, 0, 0).to_bytes();
-    notes.push(Bytes::make(Vec::from_slice(alloc, &connected)?))?;
-    Ok(notes)
-}
-
-/// The notifications that a device sends after the set-up; EEM has none.
-pub fn notes(alloc: Global, class: Class) -> Result<Vec<Bytes>, AllocError>
-    ensures { IfOk result (λ v. v.items ≡ notes_as class) }
-{
-    match class {
-        Class::Eem => Ok(Vec::new(alloc)),
-        Class::Ecm | Class::Ncm16 | Class::Ncm32 => connection_notes(alloc),
     }
 }

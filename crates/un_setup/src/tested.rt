@@ -36,7 +36,7 @@ fn has_alignment(params: &Params) -> bool
 
 /// The bytes of a block with one frame of the largest size, by the sizes of the format's header, its table's head and a
 /// pair of it.
-#[tactic(auto, unfolding(un_frame::specs::NtbForm::least_place))]
+#[tactic(auto, using(un_layout::proofs::Near::multiple_near), unfolding(un_frame::specs::NtbForm::least_place))]
 fn one_frame(params: &Params, header: u32, head: u32, pair: u32) -> u32
     requires range { AreInRange params.now }
     requires below { params.now.remainder < params.now.divisor }

@@ -1,4 +1,4 @@
-use Rattle.std.proofs.Common.{◌≡◌, Ok, ap, ◌∙◌}
+use Rattle.std.proofs.Common.{◌≡◌, Ok, ap, sym, ◌∙◌}
 use Rattle.un_desc.specs.Configuration.{function}
 use Rattle.un_desc.specs.Reading.{function_of}
 use Rattle.un_desc.proofs.Built.{built_is_read}
@@ -9,7 +9,12 @@ unreachable-requires c =
     let read : function_of c.args.configuration.now ≡ Ok (function c.args.params.now) = ap function_of c.requires.crossed ∙ built_is_read c.args.params.now c.requires.range in
     cc
 
-pub returns : goal.returns
-returns c =
+pub returns-clause-function : goal.returns-clause-function
+returns-clause-function c =
     let read : function_of c.args.configuration.now ≡ Ok (function c.args.params.now) = ap function_of c.requires.crossed ∙ built_is_read c.args.params.now c.requires.range in
     cc
+
+pub returns-clause-read : goal.returns-clause-read
+returns-clause-read c =
+    let read : function_of c.args.configuration.now ≡ Ok (function c.args.params.now) = ap function_of c.requires.crossed ∙ built_is_read c.args.params.now c.requires.range in
+    read ∙ ap Ok (sym (returns-clause-function c))
