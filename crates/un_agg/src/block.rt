@@ -14,7 +14,7 @@ use un_frame::Lane;
 use un_req::Request;
 use un_wire::{Codec, Wire};
 
-/// A codec, and the request in which its open transfer is built. Both builders keep one (this project's own).
+/// A codec, and the request in which its open transfer is built. Both builders keep one.
 #[derive(Drop)]
 pub struct OpenBlock {
     codec: Codec,

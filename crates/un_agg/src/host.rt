@@ -18,10 +18,10 @@ use un_frame::Lane;
 use un_req::{Pool, Request};
 use un_wire::{Codec, Wire};
 
-/// How many ticks an open block waits for after it got its first or its second datagram (this project's own).
+/// How many ticks an open block waits for after it got its first or its second datagram.
 const PATIENCE: u32 = 3;
 
-/// Builds the host's transfers (this project's own, after Linux's cdc_ncm): it holds an open block in a request that it claimed of the lane's pool, or the one frame that the last block had no room for,
+/// Builds the host's transfers (after Linux's cdc_ncm): it holds an open block in a request that it claimed of the lane's pool, or the one frame that the last block had no room for,
 /// or nothing. A pending count of 0 to 3 says how many ticks an open block still waits for. No call after `make` takes memory.
 #[derive(Drop)]
 pub struct HostAgg {

@@ -1,5 +1,6 @@
 -- What a writer keeps when a datagram is appended, and when a block begins or ends.
-use Rattle.std.proofs.Common.{◌≡◌, ℕ, suc, ◌+◌, ◌-◌, ◌*◌, ◌/◌, ◌%◌, ◌<◌, ◌≤◌, ◌==◌, Bool, true, false, if◌then◌else◌, List, [], ◌∷◌, ◌++◌, length, map, refl, sym, ap, ◌∙◌, arith, vec_capacity, append_assoc}
+use Rattle.std.proofs.Common.{true≢false, ◌≡◌, ℕ, suc, ◌+◌, ◌-◌, ◌*◌, ◌%◌, ◌<◌, ◌≤◌, ◌==◌, Bool, true, false, if◌then◌else◌, List, [], ◌∷◌, ◌++◌, length, map, refl, sym, ap, ◌∙◌, arith, vec_capacity, append_assoc, min}
+use Rattle.std.proofs.Math.Nat.{le-min, le-div_iff_mul-le}
 use Rattle.std.proofs.lemmas.Grind.{common_steps}
 use Rattle.std.proofs.lemmas.Bool.Decides.{nat_tests}
 use Rattle.std.proofs.lemmas.List.{length-map}
@@ -10,7 +11,7 @@ use Rattle.un_frame.proofs.NtbFormLemmas.{block_fits-append, closed_fits_within,
 use Rattle.un_frame.proofs.NtbFormReads.{IsWritable}
 use Rattle.un_req.specs.Request.{patched}
 use Rattle.un_ntb.specs.Datagrams.{places_of, place_of, size_of}
-use Rattle.un_ntb.specs.Writer.{IsWriter, layout_in, pairs_room, sizes_in}
+use Rattle.un_ntb.specs.Writer.{IsWriter, layout_in, most_datagrams, most_held, sizes_in}
 use Rattle.un_ntb.specs.declared.table.Datagram.{Datagram}
 use Rattle.un_ntb.specs.declared.writer.Writer.TheInside.{Inside}
 use Rattle.un_ntb.proofs.FormatLemmas.{IsSmall}
@@ -43,11 +44,20 @@ open_more f l sizes bytes frames frame lengths is = record { lengths = lengths_m
   lengths_more (x ∷ xs) = ap (λ (ns : List ℕ). length x ∷ ns) (lengths_more xs)
 
 -- the limit that a block keeps
-pub closed_fits_limit : (f : Format) (alignment block limit end count : ℕ) → closed_fits f alignment block limit end count ≡ true → 14 * count ≤ block → count ≤ pairs_room block limit
+pub closed_fits_limit : (f : Format) (alignment block limit end count : ℕ) → closed_fits f alignment block limit end count ≡ true → count ≤ most_held f block → count ≤ most_datagrams f block limit
 closed_fits_limit f alignment block limit end count h low = by_test (limit == 0) refl where
-  by_test : (t : Bool) → (limit == 0) ≡ t → count ≤ (if t then block / 14 + 1 else limit)
-  by_test true is = omega (arith, low)
-  by_test false is = grind (arith, nat_tests, h, is)
+  by_test : (t : Bool) → (limit == 0) ≡ t → count ≤ (if t then most_held f block else min (most_held f block) limit)
+  by_test true is = low
+  by_test false is = let within : count ≤ limit = grind (arith, nat_tests, h, is) in le-min low within
+
+-- a block holds as many datagrams as there is room for
+few_held : (f : Format) → IsSmall f → (block end count : ℕ) → f.header + 14 * count ≤ end → end + closed_table f count ≤ block → closed_table f count ≤ 65535 → count ≤ most_held f block
+few_held f small block end count low size table =
+    let spread : f.pair * (count + 1) ≡ count * f.pair + f.pair = grind (arith, common_steps) in
+    let wide : count * (14 + f.pair) ≡ 14 * count + count * f.pair = grind (arith, common_steps) in
+    le-min
+    ((le-div_iff_mul-le (omega arith)).1 (omega (arith, low, size, spread, wide)))
+    ((le-div_iff_mul-le (let pair = small.pair.0 in omega (arith, pair))).1 (omega (arith, table, spread)))
 
 -- a table of no datagrams is short
 table_none : (f : Format) → IsSmall f → closed_table f 0 ≤ 24
@@ -64,12 +74,16 @@ module _ (f : Format) (known : IsWritable f) (small : IsSmall f) (width : ℕ) (
       let from = least_place_from w.end w.divisor w.remainder in
       fits_next size (length w.datagrams.items) refl ∙ closed_fits_none f w.alignment w.block w.limit (least_place w.end w.divisor w.remainder + size) (length w.datagrams.items + 1) (omega (arith, from, long))
 
+  -- and whether it fits a new block, where none is open
+  pub fits_new : (size : ℕ) (b : Bool) → b ≡ block_fits f (layout_in w) w.block w.limit (sizes_in w ++ size ∷ []) → w.is_open ≡ false → b ≡ block_fits f (layout_in w) w.block w.limit (size ∷ [])
+  fits_new size b is shut = is ∙ ap (λ (ds : List Datagram). block_fits f (layout_in w) w.block w.limit (map size_of ds ++ size ∷ [])) (i.nothing_open shut)
+
   -- what that says in numbers
   pub record Numbers (size : ℕ) : Type 0 where
     pub whole : least_multiple (least_place w.end w.divisor w.remainder + size) w.alignment + closed_table f (length w.datagrams.items + 1) ≤ w.block
     pub table : closed_table f (length w.datagrams.items + 1) ≤ 65535
     pub within : least_place w.end w.divisor w.remainder + size ≤ w.block
-    pub room : length w.datagrams.items + 1 ≤ pairs_room w.block w.limit
+    pub room : length w.datagrams.items + 1 ≤ most_datagrams f w.block w.limit
 
   pub numbers : (size : ℕ) → 14 ≤ size → block_fits f (layout_in w) w.block w.limit (sizes_in w ++ size ∷ []) ≡ true → Numbers size
   numbers size least fits =
@@ -84,7 +98,7 @@ module _ (f : Format) (known : IsWritable f) (small : IsSmall f) (width : ℕ) (
         whole = t.0;
         table = t.1;
         within = within;
-        room = closed_fits_limit f w.alignment w.block w.limit end (length w.datagrams.items + 1) closed (omega (arith, within, place, many, least));
+        room = closed_fits_limit f w.alignment w.block w.limit end (length w.datagrams.items + 1) closed (few_held f small w.block end (length w.datagrams.items + 1) (omega (arith, place, many, least)) (omega (arith, t.0, from)) t.1);
       }
 
   -- the bytes of the request reach to the end
@@ -115,8 +129,8 @@ module _ (f : Format) (known : IsWritable f) (small : IsSmall f) (width : ℕ) (
       next.divisor ≡ w.divisor → next.remainder ≡ w.remainder → next.alignment ≡ w.alignment → next.block ≡ w.block → next.limit ≡ w.limit →
       next.datagrams.items ≡ w.datagrams.items ++ record { at = least_place w.end w.divisor w.remainder; size = size } ∷ [] →
       vec_capacity next.datagrams ≡ vec_capacity w.datagrams →
-      next.end ≡ least_place w.end w.divisor w.remainder + size → IsWriter f next
-  more next size fits least divisor remainder alignment block limit items room end =
+      next.end ≡ least_place w.end w.divisor w.remainder + size → next.is_open ≡ true → IsWriter f next
+  more next size fits least divisor remainder alignment block limit items room end opened =
       let n = numbers size least fits in
       let from = least_place_from w.end w.divisor w.remainder in
       let d : Datagram = record { at = least_place w.end w.divisor w.remainder; size = size } in
@@ -135,11 +149,12 @@ module _ (f : Format) (known : IsWritable f) (small : IsSmall f) (width : ℕ) (
         within = rw (end, block) n.within;
         count = rw (end, many) (let count = i.count in omega (arith, count, from, least));
         room = rw (room, block, limit) i.room;
+        nothing_open = λ shut. absurd (true≢false (sym opened ∙ shut));
       }
 
 -- a writer with no datagram
 pub empty_writer : (f : Format) {width : ℕ} (w : Inside width) → IsSmall f → (1 ≤ w.divisor) × (w.divisor ≤ 64) → w.remainder < w.divisor → (1 ≤ w.alignment) × (w.alignment ≤ 64) → (2048 ≤ w.block) × (w.block ≤ 262144) →
-    w.datagrams.items ≡ [] → w.end ≡ f.header → pairs_room w.block w.limit ≤ vec_capacity w.datagrams → IsWriter f w
+    w.datagrams.items ≡ [] → w.end ≡ f.header → vec_capacity w.datagrams ≡ most_datagrams f w.block w.limit → IsWriter f w
 empty_writer f w small divisor remainder alignment block items end room =
     let near = least_multiple_near f.header w.alignment alignment.0 in
     let short = table_none f small in
@@ -154,6 +169,7 @@ empty_writer f w small divisor remainder alignment block items end room =
       size = rw (items, end) (omega (arith, near, short, header.1, alignment.1, block.0));
       table = rw items (omega (arith, short));
       within = rw end (omega (arith, header.1, block.0));
-      count = rw (items, end) header.0;
+      count = rw (items, end) (omega arith);
       room = room;
+      nothing_open = λ _. items;
     }

@@ -1,5 +1,5 @@
 -- What a writer keeps.
-use Rattle.std.specs.Prelude.{◌≡◌, ℕ, ◌+◌, ◌*◌, ◌/◌, ◌<◌, ◌≤◌, ◌==◌, if◌then◌else◌, List, length, map, vec_capacity}
+use Rattle.std.specs.Prelude.{◌≡◌, ℕ, ◌+◌, ◌-◌, ◌*◌, ◌/◌, ◌<◌, ◌≤◌, ◌==◌, if◌then◌else◌, List, [], false, length, map, min, vec_capacity}
 use Rattle.un_frame.specs.Ntb.{Format}
 use Rattle.un_frame.specs.NtbForm.{Layout, Writing, closed_table, datagram_places, datagrams_end, least_multiple}
 use Rattle.un_ntb.specs.Datagrams.{places_of, size_of}
@@ -15,11 +15,16 @@ sizes_in w = map size_of w.datagrams.items
 abbrev pub writing : {width : ℕ} → Inside width → Writing
 writing w = record { layout = layout_in w; block = w.block; limit = w.limit; sizes = sizes_in w; is_open = w.is_open }
 
--- how many datagrams there is room for: as many as the limit allows, or else as the block could hold
-abbrev pub pairs_room : ℕ → ℕ → ℕ
-pairs_room block limit = if limit == 0 then block / 14 + 1 else limit
+-- how many datagrams a block can hold at most: each has 14 bytes at least and a pair of the table, beside the header and
+-- the table's head and last pair, and the table has at most 65,535 bytes
+abbrev pub most_held : Format → ℕ → ℕ
+most_held f block = min ((block - f.header - (f.head + f.pair)) / (14 + f.pair)) ((65535 - (f.head + f.pair)) / f.pair)
 
--- the parameters are in their ranges, and the places and the end are those of the sizes
+-- how many a writer has room for: as many as a block can hold, and no more than the limit, with 0 for none
+abbrev pub most_datagrams : Format → ℕ → ℕ → ℕ
+most_datagrams f block limit = if limit == 0 then most_held f block else min (most_held f block) limit
+
+-- the parameters are in their ranges, and the places and the end are those of the sizes; with no open block there are none
 pub record IsWriter (f : Format) {width : ℕ} (w : Inside width) : Type 0 where
   pub divisor : (1 ≤ w.divisor) × (w.divisor ≤ 64)
   pub remainder : w.remainder < w.divisor
@@ -30,5 +35,6 @@ pub record IsWriter (f : Format) {width : ℕ} (w : Inside width) : Type 0 where
   pub size : least_multiple w.end w.alignment + closed_table f (length w.datagrams.items) ≤ w.block
   pub table : closed_table f (length w.datagrams.items) ≤ 65535
   pub within : w.end ≤ w.block
-  pub count : 12 + 14 * length w.datagrams.items ≤ w.end
-  pub room : pairs_room w.block w.limit ≤ vec_capacity w.datagrams
+  pub count : f.header + 14 * length w.datagrams.items ≤ w.end
+  pub room : vec_capacity w.datagrams ≡ most_datagrams f w.block w.limit
+  pub nothing_open : w.is_open ≡ false → w.datagrams.items ≡ []

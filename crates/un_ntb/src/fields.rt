@@ -7,7 +7,7 @@ ghost use Rattle.un_ntb.specs.Formats.{format_of};
 
 use byteorder::{ByteOrder, LittleEndian};
 
-/// The most tables that a block may have (this project's own).
+/// The most tables that a block may have.
 pub const MOST_TABLES: usize = 32;
 
 /// The bytes of an index or a length.

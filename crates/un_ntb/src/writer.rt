@@ -6,7 +6,7 @@ ghost use Rattle.un_frame.specs.Params.{most_block};
 ghost use Rattle.un_ntb.specs.Formats.{class_of, format_of};
 ghost use Rattle.un_ntb.specs.Writer as Room;
 
-use crate::fields::{block_signature, header};
+use crate::fields::{block_signature, head, header, pair};
 use crate::table::{Datagram, close_block, closed_fits, push_datagram, push_short};
 use std::alloc::{AllocError, Global};
 use std::marker::Model;
@@ -16,7 +16,7 @@ use un_req::Request;
 /// Builds blocks in requests, in place: it keeps where the datagrams of the open block stand, and none of their bytes.
 ///
 /// A contract sees its layout, the largest block, the most datagrams (0 for no limit), the sizes of the datagrams since
-/// `start`, and whether a block is open.
+/// `start`, and whether a block is open. With no open block there are no sizes.
 #[derive(Drop)]
 pub struct Writer<const WIDTH: usize> {
     limit: u32,
@@ -41,20 +41,36 @@ impl<const WIDTH: usize> Model for Writer<WIDTH> {
     ghost invariant = { λ w. IsWriter (format_of WIDTH) w };
 }
 
-/// How many datagrams a writer makes room for: as many as the limit allows, or, with none, as a block could hold.
-fn pairs_room(block: u32, limit: u32) -> usize
-    ensures { result ≡ Room.pairs_room block limit }
+/// How many datagrams a block can hold at most, whatever they are: each has 14 bytes at least and a pair of the table, and the
+/// table has at most 65,535 bytes.
+fn most_held<const WIDTH: usize>(block: u32) -> usize
+    requires { 2048 ≤ block }
+    ensures { result ≡ Room.most_held (format_of WIDTH) block }
 {
+    let ends = head::<WIDTH>() + pair::<WIDTH>();
+    let by_size = (block as usize - header::<WIDTH>() - ends) / (14 + pair::<WIDTH>());
+    by_size.min((65535 - ends) / pair::<WIDTH>())
+}
+
+/// How many datagrams a writer makes room for: as many as a block can hold, and no more than the limit.
+fn most_datagrams<const WIDTH: usize>(block: u32, limit: u32) -> usize
+    requires { 2048 ≤ block }
+    ensures { result ≡ Room.most_datagrams (format_of WIDTH) block limit }
+{
+    let most = most_held::<WIDTH>(block);
     if limit == 0 {
-        block as usize / 14 + 1
+        most
     } else {
-        limit as usize
+        most.min(limit as usize)
     }
 }
 
 impl<const WIDTH: usize> Writer<WIDTH> {
+    ghost use Rattle.un_ntb.specs.Writer.{most_datagrams};
+
     /// A writer with no open block. `limit` is the most datagrams of a block, with 0 for no limit, and `block` the most
-    /// bytes. It takes the memory for where the datagrams stand, and no later call takes any; an error is want of memory.
+    /// bytes. It takes the memory for where the datagrams stand, of as many as a block of these sizes can hold and the limit
+    /// allows (`most`), and no later call takes any; an error is want of memory.
     pub fn make(
         alloc: Global,
         limit: u32,
@@ -75,7 +91,7 @@ impl<const WIDTH: usize> Writer<WIDTH> {
           is_open = false;
         }) }
     {
-        let datagrams = Vec::with_capacity(alloc, pairs_room(block, limit))?;
+        let datagrams = Vec::with_capacity(alloc, most_datagrams::<WIDTH>(block, limit))?;
         Ok(Writer {
             limit,
             block,
@@ -88,9 +104,18 @@ impl<const WIDTH: usize> Writer<WIDTH> {
         })
     }
 
-    /// How many datagrams the open block has.
+    /// For how many datagrams it has the memory: as many as a block can hold, with 14 bytes at least and a pair of the table
+    /// each, and no more than the limit. No call changes it.
+    pub fn most(&self) -> usize
+        ensures { result ≡ most_datagrams (format_of WIDTH) self.now.block self.now.limit }
+    {
+        self.datagrams.capacity()
+    }
+
+    /// How many datagrams the open block has, and 0 with no open block.
     pub fn count(&self) -> u32
-        ensures { result ≡ length self.now.sizes }
+        ensures count { result ≡ length self.now.sizes }
+        ensures nothing_open { self.now.is_open ≡ false → result ≡ 0 }
     {
         self.datagrams.len() as u32
     }
@@ -114,8 +139,10 @@ impl<const WIDTH: usize> Writer<WIDTH> {
 
     /// Whether a frame of this length fits the open block: with it the closed block is at most `block` bytes, its table at
     /// most 65,535, and the datagrams are within the limit. With no open block, whether it fits a new one.
+    #[tactic(auto, using(un_layout::proofs::Near::place_near))]
     pub fn fits(&self, length: u32) -> bool
-        ensures { result ≡ block_fits (format_of WIDTH) self.now.layout self.now.block self.now.limit (self.now.sizes ++ length ∷ []) }
+        ensures fits { result ≡ block_fits (format_of WIDTH) self.now.layout self.now.block self.now.limit (self.now.sizes ++ length ∷ []) }
+        ensures nothing_open { self.now.is_open ≡ false → result ≡ block_fits (format_of WIDTH) self.now.layout self.now.block self.now.limit (length ∷ []) }
     {
         let count = self.datagrams.len() as u32 + 1;
         length <= self.block
@@ -130,6 +157,7 @@ impl<const WIDTH: usize> Writer<WIDTH> {
 
     /// Appends a frame that fits, with zeros before it up to its place. The request's bytes are those that the last call
     /// left: the header and the datagrams so far.
+    #[tactic(auto, using(un_layout::proofs::Near::place_near))]
     pub fn append(&mut self, request: &mut Request, frame: &[u8])
         requires opened { self.old.is_open ≡ true }
         requires least { 14 ≤ length frame.now }
@@ -153,6 +181,7 @@ impl<const WIDTH: usize> Writer<WIDTH> {
 
     /// Ends the block: appends its table at its place and writes the fields of the header that were left at 0, the
     /// sequence number among them, which is the serial modulo 65,536.
+    #[tactic(auto, using(un_layout::proofs::Near::multiple_near))]
     pub fn close(&mut self, request: &mut Request, serial: u64)
         requires opened { self.old.is_open ≡ true }
         requires some { 0 < length self.old.sizes }

@@ -1,5 +1,5 @@
 -- What the codecs of the classes keep, and what callers see of it.
-use Rattle.std.specs.Prelude.{◌≡◌, ℕ, ◌<◌, ◌≤◌, length, option_to_list, unwrap_or, false, true}
+use Rattle.std.specs.Prelude.{◌≡◌, ℕ, ◌<◌, ◌≤◌, length, List, [], Option, None, option_to_list, unwrap_or, false, true}
 use Rattle.un_frame.specs.Lanes.{builds_blocks}
 use Rattle.un_frame.specs.NtbForm.{block_fits}
 use Rattle.un_frame.specs.Params.{layout_of}
@@ -8,7 +8,7 @@ use Rattle.un_wire.specs.declared.frame.FrameWire.TheInside as frame_wire
 use Rattle.un_ntb.specs.Formats.{class_of, format_of}
 use Rattle.un_wire.specs.declared.ntb.NtbWire.TheInside as ntb_wire
 
--- a codec of ECM or of EEM: the open transfer has at most one frame, of at most a segment
+-- a codec of ECM or of EEM: the open transfer has at most one frame, of at most a segment; with none open there is no frame
 abbrev pub frame_coding : frame_wire.Inside → Coding
 frame_coding w = record { params = w.params; sizes = option_to_list w.held; is_open = w.is_open }
 
@@ -17,8 +17,10 @@ pub record IsFrame (w : frame_wire.Inside) : Type 0 where
   pub segment : w.params.segment ≤ 8192
   pub packet : 1 ≤ w.params.packet
   pub fits : unwrap_or w.held 0 ≤ w.params.segment
+  pub nothing_open : w.is_open ≡ false → w.held ≡ None
 
--- a codec of NCM, by the bytes of an index: its writer has the parameters, and the open block's frames fit
+-- a codec of NCM, by the bytes of an index: its writer has the parameters, and the open block's frames fit; with none open
+-- there are no frames
 abbrev pub ntb_coding : {width : ℕ} → ntb_wire.Inside width → Coding
 ntb_coding w = record { params = w.params; sizes = w.writer.sizes; is_open = w.writer.is_open }
 
@@ -27,4 +29,5 @@ pub record IsNtb (width : ℕ) (w : ntb_wire.Inside width) : Type 0 where
   pub layout : w.writer.layout ≡ layout_of w.params
   pub block : w.writer.block ≡ w.params.block
   pub limit : w.writer.limit ≡ w.params.datagrams
+  pub nothing_open : w.writer.is_open ≡ false → w.writer.sizes ≡ []
   pub fits : 0 < length w.writer.sizes → block_fits (format_of width) (layout_of w.params) w.params.block w.params.datagrams w.writer.sizes ≡ true

@@ -29,8 +29,9 @@ impl Codec {
     ghost use Rattle.un_wire.specs.Codings.{coding_of, fresh};
     ghost use Rattle.un_wire.specs.Cursors.{IsAt, part_count, part_index};
 
-    /// A codec of the parameters' class, with no open transfer. It takes the memory for where the frames of a block stand, and no
-    /// later call takes any; an error is want of memory.
+    /// A codec of the parameters' class, with no open transfer. It takes the memory for where the frames of a block stand, of as
+    /// many as a block of these parameters can hold (`Writer::most` of un_ntb), and no later call takes any; an error is want of
+    /// memory.
     pub fn make(alloc: Global, params: &Params) -> Result<Codec, AllocError>
         requires in_range { AreInRange params.now }
         requires agree { Agree params.now }

@@ -39,7 +39,8 @@ impl<const WIDTH: usize> Model for NtbWire<WIDTH> {
 }
 
 impl<const WIDTH: usize> NtbWire<WIDTH> {
-    /// A codec with no open transfer. It takes the memory for where the frames of a block stand; an error is want of memory.
+    /// A codec with no open transfer. It takes the memory for where the frames of a block stand, of as many as a block can hold
+    /// (`Writer::most`); an error is want of memory.
     pub(crate) fn make(alloc: Global, params: &Params) -> Result<NtbWire<WIDTH>, AllocError>
         requires in_range { AreInRange params.now }
         requires agree { Agree params.now }

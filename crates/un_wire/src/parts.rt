@@ -29,7 +29,8 @@ impl<'a> Model for Parts<'a> {
 }
 
 impl<'a> Parts<'a> {
-    /// Lends the next frame, for as long as the bytes stand that were read; `None` exactly where none is left. Nothing is copied.
+    /// Lends the next frame, for as long as the bytes stand that were read; `None` exactly where none is left. By its type what is
+    /// lent is a slice of these bytes, and no copy.
     pub fn next(&mut self) -> Option<&'a [u8]>
         ensures part { IfSome result (λ frame. self.old.frames ≡ frame.now ∷ self.new.frames) }
         ensures end { IfNone result ((self.old.frames ≡ []) × (self.new.frames ≡ [])) }
@@ -40,7 +41,7 @@ impl<'a> Parts<'a> {
         part
     }
 
-    /// How many frames are left: a walk over them, which copies none.
+    /// How many frames are left. The code walks over them each time, and copies none.
     pub fn count(&self) -> u64
         ensures { result ≡ length self.now.frames }
     {

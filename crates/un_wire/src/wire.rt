@@ -20,15 +20,17 @@ pub trait Wire {
     fn capacity(&self) -> u32
         ensures { result ≡ capacity_of (coding self.now).params };
 
-    /// How many frames the open transfer has.
+    /// How many frames the open transfer has, and 0 where none is open.
     fn count(&self) -> u32
-        ensures { result ≡ length (coding self.now).sizes };
+        ensures count { result ≡ length (coding self.now).sizes }
+        ensures nothing_open { (coding self.now).is_open ≡ false → result ≡ 0 };
 
     /// Whether a frame of this length in bytes fits the open transfer, or a new one where none is open. ECM and EEM take one frame
     /// of at most a segment. NCM takes frames while the closed block has at most the block's bytes, its table at most 65,535, and
     /// the frames are within their limit.
     fn fits(&self, length: u32) -> bool
-        ensures { result ≡ frame_fits (coding self.now).params (coding self.now).sizes length };
+        ensures fits { result ≡ frame_fits (coding self.now).params (coding self.now).sizes length }
+        ensures nothing_open { (coding self.now).is_open ≡ false → result ≡ frame_fits (coding self.now).params [] length };
 
     /// Begins a transfer in an empty request that has room for `capacity` bytes.
     fn start(&mut self, request: &mut Request)

@@ -1,4 +1,4 @@
-use Rattle.std.proofs.Common.{◌≡◌, sym, ap, ◌∙◌, map}
+use Rattle.std.proofs.Common.{sym, ap, ◌∙◌, map}
 use Rattle.un_frame.specs.Bytes.{slice_at}
 use Rattle.un_frame.specs.Ntb.{block_of}
 use Rattle.un_frame.proofs.NtbCursorLemmas.{first_cursor}

@@ -1,4 +1,4 @@
-use Rattle.std.proofs.Common.{◌≡◌, ◌+◌, ◌-◌, List, sym, ap, ◌∙◌, map, drop, arith}
+use Rattle.std.proofs.Common.{◌-◌, List, sym, ap, ◌∙◌, map, drop, arith}
 use Rattle.un_frame.specs.Bytes.{Place, slice_at}
 use Rattle.un_frame.specs.Ntb.{block_of}
 use Rattle.un_frame.proofs.NtbCursorLemmas.{IsCursor_next, left_next}

@@ -12,4 +12,4 @@ returns-clause-made c =
     let end = c.args.from + c.count.result in
     let stamped = c.stamp.ensures ∙ ap (λ (r : Buffer). record r { from = c.args.from; to = end; serial = c.args.serial }) (c.close.ensures.request (frames_of coding c.in-Some.request) block.left) in
     rw (← c.self.view_is, was) (closed coding c.in-Some.request c.stamp.new.self c.args.from end c.args.serial block c.self.invariant.in_range c.self.invariant.agree
-    (ap (λ n. c.args.from + n) c.count.ensures) stamped)
+    (ap (λ n. c.args.from + n) c.count.ensures.count) stamped)

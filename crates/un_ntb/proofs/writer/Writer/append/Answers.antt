@@ -34,7 +34,7 @@ overflow_add-self g c =
 
 pub invariant_of-self : goal.invariant_of-self
 invariant_of-self g c =
-    more (format_of g.row.WIDTH) (format_writable g.row.WIDTH) (format_small g.row.WIDTH) g.row.WIDTH c.self.inside c.self.invariant _ (length c.args.frame.now) (rw (← c.self.view_is) at c.requires.fits) c.requires.least refl refl refl refl refl (rw c.place-at.ensures.place at c.push_reserved.ensures.items) c.push_reserved.ensures.capacity (ap (λ (n : ℕ). n + length c.args.frame.now) c.place-at.ensures.place)
+    more (format_of g.row.WIDTH) (format_writable g.row.WIDTH) (format_small g.row.WIDTH) g.row.WIDTH c.self.inside c.self.invariant _ (length c.args.frame.now) (rw (← c.self.view_is) at c.requires.fits) c.requires.least refl refl refl refl refl (rw c.place-at.ensures.place at c.push_reserved.ensures.items) c.push_reserved.ensures.capacity (ap (λ (n : ℕ). n + length c.args.frame.now) c.place-at.ensures.place) (rw (← c.self.view_is) at c.requires.opened)
 
 pub returns-clause-request : goal.returns-clause-request
 returns-clause-request g c =
@@ -49,3 +49,10 @@ returns-clause-left g c =
     let bytes = ap (λ (r : Buffer). r.bytes) (rw c.place-at.ensures.place at c.push_datagram.ensures) ∙ grown in
     let sizes : map size_of c.push_reserved.new.self.items ≡ sizes_in c.self.inside ++ length c.args.frame.now ∷ [] = ap (map size_of) c.push_reserved.ensures.items ∙ sizes-append c.self.inside.datagrams.items _ in
     rw sizes (open_more f (layout_in c.self.inside) (sizes_in c.self.inside) c.push_datagram.new.request.bytes frames c.args.frame.now here.lengths bytes)
+
+pub push_reserved-requires : goal.push_reserved-requires
+push_reserved-requires g c =
+    let n = numbers (format_of g.row.WIDTH) (format_writable g.row.WIDTH) (format_small g.row.WIDTH) g.row.WIDTH c.self.inside c.self.invariant (length c.args.frame.now) c.requires.least (rw (← c.self.view_is) at c.requires.fits) in
+    let room = n.room in
+    let whole = c.self.invariant.room in
+    omega (arith, room, whole)
