@@ -166,7 +166,7 @@ calm_lines script phase (e ∷ es) older still p all sound w l =
 abbrev pub Calm : Script → History → Type 0
 Calm script h = (l : Lane) → CalmLane (phase_of script h) (past l h)
 
-still_phases : (controls : List Due) (lines older : History) → AreStill lines → phase_after controls (onto lines older) ≡ phase_after controls older
+pub still_phases : (controls : List Due) (lines older : History) → AreStill lines → phase_after controls (onto lines older) ≡ phase_after controls older
 still_phases controls [] older s = refl
 still_phases controls (e ∷ es) older s = still_phases controls es (e ∷ older) s.1 ∙ still_phase controls e older s.0
 

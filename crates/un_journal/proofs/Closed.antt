@@ -1,5 +1,5 @@
 -- A finished history is done, no legal history goes on after it, and an unplug that is left to the drain ends away.
-use Rattle.std.proofs.Common.{◌≡◌, ℕ, zero, suc, ◌+◌, ◌-◌, ◌<◌, ◌≤◌, Bool, true, false, ◌&&◌, ◌||◌, List, [], ◌∷◌, ◌++◌, length, Some, refl, sym, ap, ◌∙◌, subst, arith, filter, reverse, slice_get, append-nil, append_assoc}
+use Rattle.std.proofs.Common.{◌≡◌, ℕ, zero, suc, ◌+◌, ◌-◌, ◌<◌, ◌≤◌, Bool, true, ◌&&◌, ◌||◌, List, [], ◌∷◌, ◌++◌, length, Some, refl, sym, ap, ◌∙◌, subst, arith, filter, reverse, slice_get, append-nil, append_assoc}
 use Rattle.std.specs.List.{list_all}
 use Rattle.std.proofs.lemmas.Bool.{false≢true, and_parts}
 use Rattle.std.proofs.lemmas.Option.{slice_get_past}
@@ -19,13 +19,14 @@ use Rattle.un_journal.specs.Step.{Work, work, is_still, lane_works, quiet, contr
 use Rattle.un_journal.specs.Drain.{drain}
 use Rattle.un_journal.proofs.Ranges.{HavePools}
 use Rattle.un_journal.specs.Done.{IsFinished, is_gone, NoneFlies}
-use Rattle.un_journal.specs.Unplug.{AwaitsUnplug, IsSettledAway, is_settled_last, IsPrefix}
+use Rattle.un_journal.specs.Unplug.{AwaitsUnplug, IsSettledAway, IsPrefix}
 use Rattle.un_journal.specs.Fits.{Act, Works, Controls, Fits, Legal, IsDone, act_outcome}
 use Rattle.un_journal.proofs.Legal.{none_flies, empty_is}
 use Rattle.un_journal.proofs.Steps.{legal_good}
 use Rattle.un_journal.proofs.Onto.{onto, past_onto}
 use Rattle.un_journal.proofs.Rules.{AllRuled, legal_ruled}
 use Rattle.un_journal.proofs.Finished.{done_finished, is_quiet}
+use Rattle.un_journal.proofs.Settled.{ends_settled}
 use Rattle.un_journal.proofs.Drained.{no_fit, sends_head, land_idle, drain_done, Extends, four_feeds}
 
 -- FINISHED
@@ -101,15 +102,15 @@ done_quiet script h pools d = (is_quiet script h pools d.is_legal d.none_fits, (
 
 -- THE CUT
 
-pub data StopCase (older : History) (phase : Phase) : Type 0 where
-  leaves : phase ≡ Leaving → is_settled_last older ≡ false → StopCase older phase
-  has_left : phase ≡ Away → is_settled_last older ≡ true → StopCase older phase
+data StopCase (phase : Phase) : Type 0 where
+  leaves : phase ≡ Leaving → StopCase phase
+  has_left : phase ≡ Away → StopCase phase
 
 -- with the unplug as the last control done, the link leaves or is away
 stop_case : (script : Script) (due : Due) → slice_get script.controls (length script.controls - 1) ≡ Some due → due.control ≡ Order.Unplug → 0 < length script.controls
-    → (older : History) → AllRuled script older → controls_done older ≡ length script.controls → StopCase older (phase_after script.controls older)
+    → (older : History) → AllRuled script older → controls_done older ≡ length script.controls → StopCase (phase_after script.controls older)
 stop_case script due e u some [] all n = absurd (omega arith)
-stop_case script due e u some ((Line.Control c f, bytes) ∷ older) all n = leaves (ap (λ o. after_control o (phase_after script.controls older)) last ∙ ap (λ o. after_order o (phase_after script.controls older)) u) refl
+stop_case script due e u some ((Line.Control c f, bytes) ∷ older) all n = leaves (ap (λ o. after_control o (phase_after script.controls older)) last ∙ ap (λ o. after_order o (phase_after script.controls older)) u)
   where
     place : length script.controls - 1 ≡ c
     place = let next : c ≡ controls_done older = all.0.of_link.is_next in omega arith
@@ -118,14 +119,10 @@ stop_case script due e u some ((Line.Control c f, bytes) ∷ older) all n = leav
     last = subst (λ i. slice_get script.controls i ≡ Some due) place e
 stop_case script due e u some ((Settled t1 r1 t2 r2, bytes) ∷ older) all n = go (stop_case script due e u some older all.1 n)
   where
-    go : StopCase older (phase_after script.controls older) → StopCase ((Settled t1 r1 t2 r2, bytes) ∷ older) (after_settled (phase_after script.controls older))
-    go (leaves p s) = has_left (ap after_settled p) refl
-    go (has_left p s) = absurd (false≢true (sym (ap (λ i. is_stopping i || is_leaving i) p) ∙ all.0.of_link))
-stop_case script due e u some (x ∷ older) all n = go (stop_case script due e u some older all.1 n)
-  where
-    go : StopCase older (phase_after script.controls older) → StopCase (x ∷ older) (phase_after script.controls (x ∷ older))
-    go (leaves p s) = leaves p s
-    go (has_left p s) = has_left p s
+    go : StopCase (phase_after script.controls older) → StopCase (after_settled (phase_after script.controls older))
+    go (leaves p) = has_left (ap after_settled p)
+    go (has_left p) = has_left (ap after_settled p)
+stop_case script due e u some (x ∷ older) all n = stop_case script due e u some older all.1 n
 
 -- what was given stays given, in its order
 given_onto : (lines g : History) → IsPrefix (given g) (given (onto lines g))
@@ -155,6 +152,6 @@ cut_off script h pools legal w = go (stop_case script w.due last w.is_unplug (le
         place : controls_done (reverse h) ≡ length script.controls - 1
         place = let one : controls_done (reverse h) + 1 ≡ length script.controls = w.is_last in omega arith
 
-    go : StopCase (reverse d) (phase_of script d) → IsSettledAway script (drain script h)
-    go (leaves p s) = absurd (false≢true (sym f.is_settled ∙ ap (λ i. is_stopping i || is_leaving i) p))
-    go (has_left p s) = record { is_away = p; is_settled = s; spread = f.spread_gone (ap is_gone p) }
+    go : StopCase (phase_of script d) → IsSettledAway script (drain script h)
+    go (leaves p) = absurd (false≢true (sym f.is_settled ∙ ap (λ i. is_stopping i || is_leaving i) p))
+    go (has_left p) = record { is_away = p; settled = ends_settled script w.due last w.is_unplug d done.is_legal p f.all_ordered; spread = f.spread_gone (ap is_gone p) }

@@ -45,7 +45,7 @@ still_control : (e : Entry) (g : History) → is_still_line e ≡ true → contr
 still_control (Line.Control c f, bytes) g s = absurd (false≢true s)
 still_control (e, bytes) g s = refl
 
-controls_onto : (lines g : History) → AreStill lines → controls_done (onto lines g) ≡ controls_done g
+pub controls_onto : (lines g : History) → AreStill lines → controls_done (onto lines g) ≡ controls_done g
 controls_onto [] g s = refl
 controls_onto (e ∷ lines) g s = controls_onto lines (e ∷ g) s.1 ∙ still_control e g s.0
 

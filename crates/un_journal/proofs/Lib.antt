@@ -23,10 +23,13 @@ pub mod Transfers
 pub mod Ranges
 pub mod Formed
 pub mod NoLoss
+pub mod Flown
+pub mod Settled
 pub mod Closed
 pub mod Moments
 pub mod Room
 pub mod Landing
+pub mod Flights
 pub mod Counts
 pub mod Spelled
 pub mod LaneFacts
@@ -34,6 +37,7 @@ pub mod LinkFacts
 pub mod Examples
 pub mod Entries
 pub mod Hexes
+pub mod Pairing
 pub mod TextLemmas
 pub mod WroteLemmas
 pub mod TextCuts

@@ -1,7 +1,7 @@
 -- Every line of a legal history is licensed at its place.
 use Rattle.std.proofs.Common.{◌≡◌, ℕ, zero, suc, ◌+◌, ◌-◌, ◌<◌, ◌≤◌, Bool, true, false, ◌&&◌, ◌||◌, ◌==◌, List, [], ◌∷◌, ◌++◌, Option, Some, None, ◌⊎◌, inl, inr, refl, sym, ap, ◌∙◌, subst, arith, if◌then◌else◌, slice_get, filter, reverse, append_assoc, append-nil}
 use Rattle.std.proofs.lemmas.Bool.{false≢true, eqb-true, and_parts}
-use Rattle.std.proofs.lemmas.List.{reverse-append}
+use Rattle.std.proofs.lemmas.List.{reverse-append, reverse-reverse}
 use Rattle.un_frame.specs.declared.params.Lane.{Lane}
 use Rattle.un_frame.specs.declared.params.Lane.TheVariants.{Outward, Inward}
 use Rattle.un_frame.specs.declared.kinds.Phase.{Phase}
@@ -18,7 +18,7 @@ use Rattle.un_journal.specs.Licence.{Cuts, Stops, IsCause, IsOrder, Licensed}
 use Rattle.un_journal.specs.History.{built, cover, taken}
 use Rattle.un_journal.specs.Lookup.{deferred, tx_home, rx_home}
 use Rattle.un_journal.specs.LaneSteps.{bare}
-use Rattle.un_journal.specs.Step.{made_if, cut_each, marked_each, recalled_each, dropped_built, order_lines}
+use Rattle.un_journal.specs.Step.{all_home, made_if, cut_each, marked_each, recalled_each, dropped_built, order_lines}
 use Rattle.un_journal.specs.Fits.{Act, Fits, takes, refuses, waits_once, closes, begins_flight, cuts_queued, lands, fails, cuts_flight, comes_home, opens, gives, posts_one, marks, recalls_one, clears, settles, orders, orders_forced, Legal, begins, goes_on, after_took}
 use Rattle.un_journal.proofs.Lists.{same_lane_true}
 
@@ -199,7 +199,7 @@ made_licensed : (script : Script) (lane : Lane) (g : History) (o : Option (ℕ �
 made_licensed script lane g None older = tt
 made_licensed script lane g (Some s) older = (tt, tt)
 
-home_parts : (a b c d : ℕ × ℕ) → ((a.0 == a.1) && (b.0 == b.1) && (c.0 == c.1) && (d.0 == d.1)) ≡ true → (a.0 ≡ a.1) × (b.0 ≡ b.1) × (c.0 ≡ c.1) × (d.0 ≡ d.1)
+pub home_parts : (a b c d : ℕ × ℕ) → ((a.0 == a.1) && (b.0 == b.1) && (c.0 == c.1) && (d.0 == d.1)) ≡ true → (a.0 ≡ a.1) × (b.0 ≡ b.1) × (c.0 ≡ c.1) × (d.0 ≡ d.1)
 home_parts a b c d e =
     let p = and_parts (((a.0 == a.1) && (b.0 == b.1)) && (c.0 == c.1)) (d.0 == d.1) e in
     let q = and_parts ((a.0 == a.1) && (b.0 == b.1)) (c.0 == c.1) p.0 in
@@ -231,7 +231,7 @@ step_licensed script h lines act all (clears lane a e) = licensed_one script h _
 step_licensed script h lines act all (settles s e) =
     let r = home_parts (tx_home script.params Outward (past Outward h), tx_size script.params Outward) (rx_home script.params Outward (past Outward h), rx_size script.params Outward)
     (tx_home script.params Inward (past Inward h), tx_size script.params Inward) (rx_home script.params Inward (past Inward h), rx_size script.params Inward) e in
-    licensed_one script h _ all (record { tx_out = r.0; rx_out = r.1; tx_in = r.2; rx_in = r.3 })
+    licensed_one script h _ all (record { is_home = subst (λ i. all_home script i ≡ true) (sym (reverse-reverse h)) e; sizes = record { tx_out = r.0; rx_out = r.1; tx_in = r.2; rx_in = r.3 } })
 step_licensed script h lines act all (orders force due e p d z) = licensed_order script h false due all e p
 step_licensed script h lines act all (orders_forced due e p d q z) = licensed_order script h true due all e p
 

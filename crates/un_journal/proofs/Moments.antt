@@ -1,12 +1,15 @@
 -- A legal history falls into steps in one way, so none goes on after one that is done.
-use Rattle.std.proofs.Common.{◌≡◌, ◌+◌, [], ◌∷◌, ◌++◌, length, Option, Some, None, refl, sym, ap, ◌∙◌, subst, arith, reverse, slice_get, append-nil, append_assoc, length-append}
+use Rattle.std.proofs.Common.{◌≡◌, ℕ, ◌+◌, ◌-◌, List, [], ◌∷◌, ◌++◌, length, Option, Some, None, refl, sym, ap, ◌∙◌, subst, arith, reverse, take, slice_get, append-nil, append_assoc, length-append}
+use Rattle.un_frame.specs.declared.params.Lane.{Lane}
 use Rattle.un_frame.specs.declared.params.Lane.TheVariants.{Outward, Inward}
+use Rattle.un_frame.specs.Wire.{form}
 use Rattle.un_journal.specs.declared.lines.Line.{Line}
-use Rattle.un_journal.specs.declared.lines.Line.TheVariants.{Took}
+use Rattle.un_journal.specs.declared.lines.Line.TheVariants.{Took, Made, Gave}
 use Rattle.un_journal.specs.declared.controls.Due.{Due}
 use Rattle.un_journal.specs.Script.{Script}
-use Rattle.un_journal.specs.History.{Entry, History, past}
-use Rattle.un_journal.specs.Lookup.{phase_of, controls_done, span_after_took}
+use Rattle.un_journal.specs.History.{Entry, History, past, made, current}
+use Rattle.un_journal.specs.Lookup.{phase_of, controls_done, built_frames, span_after_took}
+use Rattle.un_journal.specs.LaneSteps.{datagram_bytes}
 use Rattle.un_journal.specs.Step.{made_if, order_lines}
 use Rattle.un_journal.specs.Fits.{Act, Fits, takes, refuses, waits_once, closes, begins_flight, cuts_queued, lands, fails, cuts_flight, comes_home, opens, gives, posts_one, marks, recalls_one, clears, settles, orders, orders_forced, Legal, begins, goes_on, IsDone, after_took}
 use Rattle.un_journal.proofs.Drained.{fits_some, Extends, extends_same, extends_more}
@@ -51,6 +54,46 @@ tail_is script h lines xs act e (orders_forced due p s d qu z) q = cons_tail scr
 -- two steps with one first line are one
 same_step : (script : Script) (h xs ys : History) (a b : Act) (e : Entry) → Fits script h a (e ∷ xs) → Fits script h b (e ∷ ys) → xs ≡ ys
 same_step script h xs ys a b e f g = tail_is script h (e ∷ xs) xs a e f refl ∙ sym (tail_is script h (e ∷ ys) ys b e g refl)
+
+-- the bytes of the first line of a step
+abbrev part_of : Script → Lane → History → ℕ → Option ℕ → List ℕ
+part_of script lane g n None = []
+part_of script lane g n (Some k) = datagram_bytes script.params g k n
+
+abbrev bytes_of : Script → History → Line → List ℕ
+bytes_of script h (Made l k a b) = form script.params (made (past l h)) (take (b - a) (built_frames script l (past l h)))
+bytes_of script h (Gave l n) = part_of script l (past l h) n (current (past l h))
+bytes_of script h line = []
+
+cons_bytes : (script : Script) (h r xs : History) (f e : Entry) → f ∷ r ≡ e ∷ xs → f.1 ≡ bytes_of script h f.0 → e.1 ≡ bytes_of script h e.0
+cons_bytes script h r xs f e q t = let same : f ≡ e = cc in subst (λ i. i.1 ≡ bytes_of script h i.0) same t
+
+bytes_are : (script : Script) (h lines xs : History) (act : Act) (e : Entry) → Fits script h act lines → lines ≡ e ∷ xs → e.1 ≡ bytes_of script h e.0
+bytes_are script h lines xs act e (takes lane sender frame w p v home) q = cons_bytes script h _ xs _ e q refl
+bytes_are script h lines xs act e (refuses lane sender frame why w p v n) q = cons_bytes script h _ xs _ e q refl
+bytes_are script h lines xs act e (waits_once lane p) q = cons_bytes script h _ xs _ e q refl
+bytes_are script h lines xs act e (closes lane b p n) q = cons_bytes script h _ xs _ e q refl
+bytes_are script h lines xs act e (begins_flight lane k a none p m ha po) q = cons_bytes script h _ xs _ e q refl
+bytes_are script h lines xs act e (cuts_queued lane k c none p m) q = cons_bytes script h _ xs _ e q refl
+bytes_are script h lines xs act e (lands lane k f m p) q = cons_bytes script h _ xs _ e q refl
+bytes_are script h lines xs act e (fails lane k kind f m p) q = cons_bytes script h _ xs _ e q refl
+bytes_are script h lines xs act e (cuts_flight lane k c f m) q = cons_bytes script h _ xs _ e q refl
+bytes_are script h lines xs act e (comes_home lane p) q = cons_bytes script h _ xs _ e q refl
+bytes_are script h lines xs act e (opens lane k none p) q = cons_bytes script h _ xs _ e q refl
+bytes_are script h lines xs act e (gives lane k n c p) q = cons_bytes script h _ xs _ e q (ap (part_of script lane (past lane h) n) (sym c))
+bytes_are script h lines xs act e (posts_one lane a r) q = cons_bytes script h _ xs _ e q refl
+bytes_are script h lines xs act e (marks lane k s p) q = cons_bytes script h _ xs _ e q refl
+bytes_are script h lines xs act e (recalls_one lane s p po) q = cons_bytes script h _ xs _ e q refl
+bytes_are script h lines xs act e (clears lane a p) q = cons_bytes script h _ xs _ e q refl
+bytes_are script h lines xs act e (settles s p) q = cons_bytes script h _ xs _ e q refl
+bytes_are script h lines xs act e (orders force due p s d z) q = cons_bytes script h _ xs _ e q refl
+bytes_are script h lines xs act e (orders_forced due p s d qu z) q = cons_bytes script h _ xs _ e q refl
+
+-- and so does the line alone, without its bytes
+pub line_fixes : (script : Script) (h xs ys : History) (a b : Act) (line : Line) (bytes other : List ℕ) → Fits script h a ((line, bytes) ∷ xs) → Fits script h b ((line, other) ∷ ys) → (bytes ≡ other) × (xs ≡ ys)
+line_fixes script h xs ys a b line bytes other f g =
+    let same : bytes ≡ other = bytes_are script h _ xs a (line, bytes) f refl ∙ sym (bytes_are script h _ ys b (line, other) g refl) in
+    (same, same_step script h xs ys a b (line, other) (subst (λ i. Fits script h a ((line, i) ∷ xs)) same f) g)
 
 -- FROM A MOMENT ON
 

@@ -1,7 +1,7 @@
 -- Every line of a legal history carries bytes as its kind says, and is licensed at its place.
 use Rattle.std.proofs.Common.{◌≡◌, ℕ, ◌+◌, ◌-◌, ◌<◌, ◌≤◌, Bool, true, false, List, [], ◌∷◌, ◌++◌, length, sym, ap, subst, arith, if◌then◌else◌, filter, reverse, take, drop, length-append, ◌==◌, ◌%◌, flat_map, slice_get, Some, zero, suc}
 use Rattle.std.proofs.lemmas.Bool.{false≢true}
-use Rattle.std.proofs.lemmas.List.{length-drop, length-take-le}
+use Rattle.std.proofs.lemmas.List.{length-drop, length-take-le, reverse-reverse}
 use Rattle.std.specs.List.{AllByRecursion, concat}
 use Rattle.un_frame.specs.declared.params.Lane.{Lane}
 use Rattle.un_frame.specs.declared.params.Params.{Params}
@@ -19,7 +19,7 @@ use Rattle.un_journal.specs.Lookup.{datagrams}
 use Rattle.un_journal.specs.Sound.{IsSound}
 use Rattle.un_journal.specs.Bytes.{AreDatagrams}
 use Rattle.un_journal.specs.Fits.{Legal}
-use Rattle.un_journal.specs.Licence.{Licensed, AreSizes}
+use Rattle.un_journal.specs.Licence.{Licensed, FindsHome}
 use Rattle.un_journal.proofs.Transfers.{AreFrames, WireHolds}
 use Rattle.un_journal.proofs.Legal.{empty_is}
 use Rattle.un_journal.proofs.Steps.{legal_good, same_lane_same}
@@ -43,8 +43,9 @@ pub licensed_at : (script : Script) (before after : History) (e : Entry) → Leg
 licensed_at script before after e legal =
     (under_licensed script after (e ∷ reverse before) (subst (AllLicensed script) (split before after e) (legal_licensed script (before ++ e ∷ after) legal))).0
 
-pub settled_at : (script : Script) (before after : History) (t1 r1 t2 r2 : ℕ) (bytes : List ℕ) → Legal script (before ++ (Settled t1 r1 t2 r2, bytes) ∷ after) → AreSizes script t1 r1 t2 r2
-settled_at script before after t1 r1 t2 r2 bytes legal = licensed_at script before after (Settled t1 r1 t2 r2, bytes) legal
+pub settled_at : (script : Script) (before after : History) (t1 r1 t2 r2 : ℕ) (bytes : List ℕ) → Legal script (before ++ (Settled t1 r1 t2 r2, bytes) ∷ after) → FindsHome script before t1 r1 t2 r2
+settled_at script before after t1 r1 t2 r2 bytes legal =
+    subst (λ i. FindsHome script i t1 r1 t2 r2) (reverse-reverse before) (licensed_at script before after (Settled t1 r1 t2 r2, bytes) legal)
 
 under_ruled : (script : Script) (lines g : History) → AllRuled script (onto lines g) → AllRuled script g
 under_ruled script [] g all = all

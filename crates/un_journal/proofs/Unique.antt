@@ -94,7 +94,7 @@ if_positive : (b : Bool) (n : ℕ) → 0 < (if b then n else 0) → b ≡ true
 if_positive true n h = refl
 if_positive false n h = absurd (omega arith)
 
-pending_built : (params : Params) (lane : Lane) (g : History) → 0 < pending params lane g → 0 < built g
+pub pending_built : (params : Params) (lane : Lane) (g : History) → 0 < pending params lane g → 0 < built g
 pending_built params Outward g h = open_built params Outward g (if_positive (block_open params Outward g) _ h)
 pending_built params Inward g h = absurd (omega arith)
 

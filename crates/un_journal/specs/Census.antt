@@ -1,4 +1,4 @@
--- How often the number of a datagram stands in each place of its lane. These nine places are this project's own.
+-- How often the number of a datagram stands in each place of its lane.
 use Rattle.std.specs.Prelude.{◌≡◌, ℕ, ◌+◌, Bool, true, false, ◌==◌, List, [], ◌∷◌, ◌++◌, Option, Some, None, if◌then◌else◌}
 use Rattle.un_frame.specs.declared.params.Lane.{Lane}
 use Rattle.un_frame.specs.declared.params.Params.{Params}

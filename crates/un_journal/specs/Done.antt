@@ -1,4 +1,4 @@
--- What holds of a history after which no step fits (this project's own).
+-- What holds of a history after which no step fits.
 use Rattle.std.specs.Prelude.{◌≡◌, ◌<◌, ℕ, Bool, true, false, ◌||◌, reverse, length, Some, None}
 use Rattle.un_frame.specs.declared.params.Lane.{Lane}
 use Rattle.un_frame.specs.declared.kinds.Phase.{Phase}

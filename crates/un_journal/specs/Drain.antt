@@ -1,4 +1,4 @@
--- Runs of actions, the serial round and the drain (this project's own).
+-- Runs of actions, the serial round and the drain.
 use Rattle.std.specs.Prelude.{ℕ, zero, suc, ◌+◌, ◌*◌, Bool, true, false, List, [], ◌∷◌, ◌++◌, length, sum_by, nat_le}
 use Rattle.un_frame.specs.declared.params.Lane.TheVariants.{Outward, Inward}
 use Rattle.un_journal.specs.declared.actions.Action.{Action}

@@ -1,5 +1,5 @@
 -- The table of steps: which lines may be one step after a history. One rule for each row: what it needs, and the lines. Legal
--- histories are those that these steps leave. The rows are this project's own.
+-- histories are those that these steps leave.
 use Rattle.std.specs.Prelude.{◌≡◌, ◌≢◌, ◌<◌, ℕ, ◌-◌, Bool, true, false, [], ◌∷◌, ◌++◌, reverse, Option, Some, None, slice_get, ◌||◌}
 use Rattle.un_frame.specs.declared.params.Lane.{Lane}
 use Rattle.un_frame.specs.declared.params.Lane.TheVariants.{Outward, Inward}

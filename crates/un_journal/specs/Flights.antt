@@ -1,5 +1,4 @@
--- The flights that are out of a machine, as lists in which the order says nothing: what counts is how often a flight stands in one
--- (this project's own).
+-- The flights that are out of a machine, as lists in which the order says nothing: what counts is how often a flight stands in one.
 use Rattle.std.specs.Prelude.{◌≡◌, ℕ, ◌+◌, Bool, ◌&&◌, ◌==◌, List, [], ◌∷◌}
 use Rattle.std.specs.Str.{bytes_eq}
 use Rattle.un_frame.specs.Lanes.{same_lane}

@@ -1,5 +1,5 @@
 -- A history is a list of entries, the oldest first. What it says of a lane is looked up in the lane's entries, the newest first:
--- each look-up below says what one more line changes. Lines and look-ups are this project's own. A flight is looked up so that a
+-- each look-up below says what one more line changes. A flight is looked up so that a
 -- transfer may fly again: it flies where a flying line has no later line that ends the flight.
 use Rattle.std.specs.Prelude.{ℕ, zero, suc, ◌+◌, ◌-◌, Bool, true, false, not, ◌&&◌, ◌||◌, ◌==◌, nat_lt, nat_le, List, [], ◌∷◌, ◌++◌, reverse, Option, Some, None, filter, is_some, if◌then◌else◌}
 use Rattle.un_frame.specs.declared.params.Lane.{Lane}

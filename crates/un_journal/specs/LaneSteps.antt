@@ -1,6 +1,6 @@
 -- A lane's part of the steps: what each writes, or the answer of one that writes nothing, from the lane's lines g, the newest
 -- first. What a lane doesn't know is handed in: whether the link sleeps, the frames that are built, the queued transfers, the
--- planned fault. The rules are this project's own.
+-- planned fault.
 use Rattle.std.specs.Prelude.{ℕ, ◌-◌, Bool, ◌&&◌, ◌==◌, nat_lt, List, [], ◌∷◌, take, Option, Some, None, if◌then◌else◌}
 use Rattle.un_frame.specs.declared.params.Lane.{Lane}
 use Rattle.un_frame.specs.declared.params.Params.{Params}

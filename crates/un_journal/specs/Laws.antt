@@ -9,7 +9,7 @@ use Rattle.un_journal.specs.declared.actions.Action.{Action}
 use Rattle.un_journal.specs.declared.actions.Answer.{Answer}
 use Rattle.un_journal.specs.Log.{HasReason, CarriesItsBytes}
 use Rattle.un_journal.specs.Script.{Script, frames_of, tx_size, rx_size}
-use Rattle.un_journal.specs.History.{Entry, History, past, taken, given, made, posts, returned, flies, flown, waits, ended, was_cut, row_from}
+use Rattle.un_journal.specs.History.{Entry, History, past, taken, given, made, posts, recalls, flights, flight_cuts, posted, flying, delivered, returned, flies, flown, waits, ended, was_cut, row_from}
 use Rattle.un_journal.specs.Lookup.{datagrams, controls_done, tx_home, rx_home}
 use Rattle.un_journal.specs.LaneSteps.{Writes, lines_in}
 use Rattle.un_journal.specs.Step.{all_home, away, quiet, step_of, answer_of}
@@ -17,8 +17,8 @@ use Rattle.un_journal.specs.Fits.{Act, Fits, Legal, IsDone, act_outcome}
 use Rattle.un_journal.specs.Drain.{run, drain, drain_in, line_bound}
 use Rattle.un_journal.specs.Places.{trues, places, IsRising, IsAllBelow}
 use Rattle.un_journal.specs.Census.{census, total, NamesPlace, nowhere}
-use Rattle.un_journal.specs.Licence.{Licensed, AreSizes}
-use Rattle.un_journal.specs.Sums.{claim, rx_back}
+use Rattle.un_journal.specs.Licence.{Licensed, FindsHome}
+use Rattle.un_journal.specs.Sums.{claim, rx_back, landings, cuts_of}
 use Rattle.un_journal.specs.Bytes.{AreDatagrams, bytes_in, byte_bound}
 use Rattle.un_journal.specs.Done.{IsFinished, NoneFlies}
 use Rattle.un_journal.specs.Loss.{LosesNothing, accepted, good_frames}
@@ -81,7 +81,7 @@ LossIsLicensed = (script : Script) (before after : History) (e : Entry)
 -- a settled line finds every request at home
 abbrev pub SettledIsHome : Type 0
 SettledIsHome = (script : Script) (before after : History) (t1 r1 t2 r2 : ℕ) (bytes : List ℕ)
-    → Legal script (before ++ (Settled t1 r1 t2 r2, bytes) ∷ after) → AreSizes script t1 r1 t2 r2
+    → Legal script (before ++ (Settled t1 r1 t2 r2, bytes) ∷ after) → FindsHome script before t1 r1 t2 r2
 
 -- without a planned fault or a stop, and awake at the end, everything that was accepted is given
 abbrev pub AllIsGiven : Type 0
@@ -126,6 +126,23 @@ ReceiveAddsUp = (script : Script) (h : History) (lane : Lane)
     → Legal script h
     → posts (past lane h) + rx_home script.params lane (past lane h) ≡ rx_back script.params lane (past lane h)
 
+-- a posted request was recalled, left with a flight, or is posted
+abbrev pub PostedAddsUp : Type 0
+PostedAddsUp = (script : Script) (h : History) (lane : Lane)
+    → Legal script h
+    → recalls (past lane h) + flights (past lane h) + posted (past lane h) ≡ posts (past lane h)
+
+-- a receive request is home, posted, in a flight, or in a landed transfer that isn't given whole
+abbrev pub ReceiveIsSomewhere : Type 0
+ReceiveIsSomewhere = (script : Script) (h : History) (lane : Lane)
+    → Legal script h
+    → rx_home script.params lane (past lane h) + posted (past lane h) + length (flying (past lane h)) + length (landings (past lane h)) ≡ rx_size script.params lane + length (delivered (past lane h))
+
+-- the cut lines that bring a receive request home are those of the transfers that flew
+abbrev pub FlightCutsFlew : Type 0
+FlightCutsFlew = (script : Script) (h : History) (lane : Lane)
+    → Legal script h → flight_cuts (past lane h) ≡ cuts_of (flown (past lane h)) (past lane h)
+
 -- no pool has more at home than it has
 abbrev pub HomeIsInPool : Type 0
 HomeIsInPool = (script : Script) (h : History) (lane : Lane)
@@ -146,6 +163,11 @@ NoneIsAway = (script : Script) (h : History) → all_home script h ≡ true → 
 abbrev pub StepIsOne : Type 0
 StepIsOne = (script : Script) (h : History) (act : Act) (xs ys : History)
     → Legal script h → Fits script h act xs → Fits script h act ys → xs ≡ ys
+
+-- the first line of a step fixes the rest: two steps that begin with one line carry the same bytes in it, and the same lines follow
+abbrev pub LineFixesStep : Type 0
+LineFixesStep = (script : Script) (h xs ys : History) (a b : Act) (line : Line) (bytes other : List ℕ)
+    → Fits script h a ((line, bytes) ∷ xs) → Fits script h b ((line, other) ∷ ys) → (bytes ≡ other) × (xs ≡ ys)
 
 -- what an act writes is a step that fits by the table
 abbrev pub WrittenFits : Type 0
@@ -206,7 +228,8 @@ DrainEnds = (script : Script) (h : History) (rounds : ℕ)
 abbrev pub DrainIsDone : Type 0
 DrainIsDone = (script : Script) (h : History) → Legal script h → NoneFlies h → IsDone script (drain script h)
 
--- where an unplug is the last control and nothing flies, the drain leaves the link settled and away
+-- where an unplug is the one control left and nothing flies, the drain leaves the link away, and ends with the line that settles it,
+-- with every request at home
 abbrev pub CutIsSettled : Type 0
 CutIsSettled = (script : Script) (h : History)
     → AreInRange script.params → Legal script h → AwaitsUnplug script h → IsSettledAway script (drain script h)

@@ -1,6 +1,6 @@
 -- What a line needs of the script and of the lines before it, the newest first: why a transfer failed or was cut, why datagrams were
--- dropped, and that every request is home where a stop settles (this project's own).
-use Rattle.std.specs.Prelude.{◌≡◌, ◌<◌, ℕ, false, ◌||◌, Some, None, slice_get, filter}
+-- dropped, and that every request is home where a stop settles.
+use Rattle.std.specs.Prelude.{◌≡◌, ◌<◌, ℕ, true, false, ◌||◌, Some, None, slice_get, filter, reverse}
 use Rattle.un_frame.specs.declared.params.Lane.{Lane}
 use Rattle.un_frame.specs.declared.params.Lane.TheVariants.{Outward, Inward}
 use Rattle.un_frame.specs.declared.kinds.FaultKind.{FaultKind}
@@ -11,6 +11,7 @@ use Rattle.un_journal.specs.declared.controls.Due.{Due}
 use Rattle.un_journal.specs.Script.{Script, planned, tx_size, rx_size}
 use Rattle.un_journal.specs.History.{Entry, History, concerns, mark}
 use Rattle.un_journal.specs.Lookup.{controls_done, phase_after, is_stopping, is_leaving}
+use Rattle.un_journal.specs.Step.{all_home}
 
 -- whether an order gives up transfers of the lane, whether it stops the link
 abbrev pub Cuts : Order → Lane → Type 0
@@ -50,6 +51,11 @@ pub record AreSizes (script : Script) (t1 r1 t2 r2 : ℕ) : Type 0 where
   pub tx_in : t2 ≡ tx_size script.params Inward
   pub rx_in : r2 ≡ rx_size script.params Inward
 
+-- a settled line with these numbers finds every request at home: so it is after the lines before it, and the numbers say so
+pub record FindsHome (script : Script) (before : History) (t1 r1 t2 r2 : ℕ) : Type 0 where
+  pub is_home : all_home script before ≡ true
+  pub sizes : AreSizes script t1 r1 t2 r2
+
 -- What licenses a line at its place. A failed, cut or dropped line has its cause; a marked line names a control that cuts its lane;
 -- control and settled lines stand where they may.
 abbrev pub Licensed : Script → History → Entry → Type 0
@@ -57,6 +63,6 @@ Licensed script older (Failed l k kind, bytes) = IsFault script older l k kind
 Licensed script older (Marked l k c, bytes) = IsCause script older c (λ o. Cuts o l)
 Licensed script older (Cut l k c, bytes) = IsCause script older c (λ o. Cuts o l)
 Licensed script older (Dropped l a b c, bytes) = IsCause script older c Stops
-Licensed script older (Settled t1 r1 t2 r2, bytes) = AreSizes script t1 r1 t2 r2
+Licensed script older (Settled t1 r1 t2 r2, bytes) = FindsHome script (reverse older) t1 r1 t2 r2
 Licensed script older (Line.Control c f, bytes) = IsOrder script older c
 Licensed script older (e, bytes) = Unit {0}

@@ -1,5 +1,5 @@
--- What a history says with its script: the phase, the feeds, the requests at home, the next block, the queues. The rules are this
--- project's own; those on blocks follow the Linux drivers cdc_ncm, outward, and f_ncm, inward.
+-- What a history says with its script: the phase, the feeds, the requests at home, the next block, the queues. The
+-- rules on blocks follow the Linux drivers cdc_ncm, outward, and f_ncm, inward.
 use Rattle.std.specs.Prelude.{ℕ, zero, suc, ◌+◌, ◌-◌, min, Bool, true, false, not, ◌&&◌, ◌||◌, nat_lt, List, [], ◌∷◌, ◌++◌, reverse, length, drop, Option, Some, None, unwrap_or, is_some, slice_get, if◌then◌else◌}
 use Rattle.un_frame.specs.declared.params.Lane.{Lane}
 use Rattle.un_frame.specs.declared.params.Lane.TheVariants.{Outward, Inward}

@@ -1,4 +1,4 @@
--- A script as plain data: the parameters of a link, what its senders offer, and what is done to it (this project's own).
+-- A script as plain data: the parameters of a link, what its senders offer, and what is done to it.
 use Rattle.std.specs.Prelude.{ℕ, ◌&&◌, ◌==◌, List, [], ◌∷◌, Option, Some, None, unwrap_or, slice_get, if◌then◌else◌}
 use Rattle.un_frame.specs.declared.params.Lane.{Lane}
 use Rattle.un_frame.specs.declared.params.Lane.TheVariants.{Outward, Inward}

@@ -1,5 +1,5 @@
 -- The lines of one lane in an order that a lane can write: what each line needs of the lane's lines before it, the newest first.
--- No script and no phase is in it. Both lanes of every legal history are sound (this project's own).
+-- No script and no phase is in it. Both lanes of every legal history are sound.
 use Rattle.std.specs.Prelude.{◌≡◌, ℕ, ◌<◌, ◌≤◌, true, false, [], ◌∷◌, Some, ◌⊎◌}
 use Rattle.un_journal.specs.declared.lines.Line.TheVariants.{Made, Flying, Landed, Failed, Cut, Dropped, TxHome, Opened, Gave}
 use Rattle.un_journal.specs.History.{Entry, History, taken, made, cover, flies, waits, ended, landed, opened, gave, serial_of, returned}

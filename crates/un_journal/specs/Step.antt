@@ -1,5 +1,5 @@
--- The steps of a link: what each action writes after a history, or the answer of one that writes nothing. The rules are this
--- project's own; how blocks are cut follows the Linux drivers cdc_ncm and f_ncm.
+-- The steps of a link: what each action writes after a history, or the answer of one that writes nothing. How
+-- blocks are cut follows the Linux drivers cdc_ncm and f_ncm.
 use Rattle.std.specs.Prelude.{ℕ, ◌+◌, ◌-◌, Bool, true, false, not, ◌&&◌, ◌||◌, ◌==◌, nat_lt, nat_le, List, [], ◌∷◌, ◌++◌, map, reverse, length, replicate, Option, Some, None, slice_get, if◌then◌else◌}
 use Rattle.std.specs.List.{list_all}
 use Rattle.un_frame.specs.declared.params.Lane.{Lane}

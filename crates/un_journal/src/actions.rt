@@ -2,7 +2,7 @@
 
 use un_frame::{Lane, Phase};
 
-/// One action on a link (this project's own). `Move` is taking a flight, copying its bytes and landing it in one step.
+/// One action on a link. `Move` is taking a flight, copying its bytes and landing it in one step.
 #[derive(Clone, Copy, Debug, PartialEq, Eq)]
 pub enum Action {
     Offer { lane: Lane, sender: u32 },

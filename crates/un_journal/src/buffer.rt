@@ -1,9 +1,10 @@
-//! A buffer before a sink, and the words of a text. All texts are this project's own.
+//! A buffer before a sink, and the words of a text.
 
 ghost use Rattle.std.specs.Prelude.{◌≡◌, ◌+◌, ◌*◌, ◌≤◌, ◌∷◌, ◌++◌, [], length, decimal, take};
 ghost use Rattle.hex.specs.Hex.{encode_lower};
 ghost use Rattle.un_journal.specs.History.{Entry};
 
+use crate::digits::encode;
 use std::marker::Model;
 
 /// Text that isn't in the sink yet, at most 8,192 bytes, on the stack. Contracts see it as its bytes.
@@ -93,9 +94,7 @@ fn put_hex(bytes: &mut [u8], at: usize, from: &[u8])
     requires { at + 2 * length from.now ≤ length bytes.old }
     ensures { take (at + 2 * length from.now) bytes.new ≡ take at bytes.old ++ encode_lower from.now }
 {
-    if hex::encode_to_slice(from, &mut bytes[at..at + 2 * from.len()]).is_err() {
-        unreachable!();
-    }
+    encode(from, &mut bytes[at..at + 2 * from.len()]);
 }
 
 /// Adds a word behind a space, both of which have room.

@@ -1,6 +1,6 @@
 //! How often a datagram stands in each place.
 
-/// How often the number of a datagram stands in each place of its lane (this project's own). For an accepted datagram the
+/// How often the number of a datagram stands in each place of its lane. For an accepted datagram the
 /// fields add up to 1, and the one that is 1 names its place; for any other number each is 0.
 #[derive(Clone, Copy, Debug, PartialEq, Eq)]
 pub struct Census {

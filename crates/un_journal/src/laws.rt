@@ -1,6 +1,7 @@
 //! The laws over every history that a link can have, each the contract of a call that does nothing: a crate above takes a law from
 //! here. A history is legal where steps left it, one after the other; a moment of it is legal itself, so each law holds at every
-//! moment.
+//! moment. The laws on unchanged, spelled and bounded bytes need parameters that are in their ranges and agree; those on what is done,
+//! lost and cut need them in their ranges, as each script's are (`Script::is_ready` of `un_script`).
 
 ghost use Rattle.un_journal.specs.Laws.{
   ActsStayLegal,
@@ -19,18 +20,22 @@ ghost use Rattle.un_journal.specs.Laws.{
   DrainIsLegal,
   FittingIsWritten,
   FliesInPlainWords,
+  FlightCutsFlew,
   GivenIsAccepted,
   GivenIsKept,
   GivenIsUnchanged,
   GivenRises,
   HomeIsInPool,
   IsInOnePlace,
+  LineFixesStep,
   LinesAreBounded,
   LinesAreSpelled,
   LossIsLicensed,
   NoneIsAway,
+  PostedAddsUp,
   QuietIsDone,
   ReceiveAddsUp,
+  ReceiveIsSomewhere,
   RefusalsWriteNothing,
   RunsStayLegal,
   SettledIsHome,
@@ -72,7 +77,8 @@ pub fn losses_are_licensed()
     ensures { LossIsLicensed }
 {}
 
-/// Where a stop settles, each of the four numbers of requests at home is its pool's size.
+/// A `settled` line finds every request of both lanes at home: so it is after the lines before it, and each of the line's four numbers
+/// is its pool's size.
 pub fn settled_is_home()
     ensures { SettledIsHome }
 {}
@@ -100,9 +106,14 @@ pub fn bytes_are_bounded()
 {}
 
 /// Every request of a pool is at home or out, and none is counted twice; requests are away exactly where not all are at home.
+/// A receive request that was posted was recalled, left with a flight, or is posted. It is at home, posted, in a flight, or in a
+/// landed transfer of which a datagram isn't given. A `cut` line brings one home exactly where its transfer has a `flying` line.
 pub fn pools_add_up()
     ensures transmit { TransmitAddsUp }
     ensures receive { ReceiveAddsUp }
+    ensures posted { PostedAddsUp }
+    ensures somewhere { ReceiveIsSomewhere }
+    ensures flight_cuts { FlightCutsFlew }
     ensures in_pool { HomeIsInPool }
     ensures some_away { SomeAreAway }
     ensures none_away { NoneIsAway }
@@ -111,6 +122,12 @@ pub fn pools_add_up()
 /// After a history each action has at most one step.
 pub fn one_step()
     ensures { StepIsOne }
+{}
+
+/// The first line of a step fixes the whole step: two steps that fit the same history and begin with the same line carry the same
+/// bytes in that line, and the same lines follow it. So who reads a history step by step has at each line one way to go on.
+pub fn line_fixes_step()
+    ensures { LineFixesStep }
 {}
 
 /// The table of steps and the functions that compute lines and answers agree.
@@ -152,8 +169,8 @@ pub fn drain_is_done()
     ensures done { DrainIsDone }
 {}
 
-/// Where an unplug is the one control left and nothing flies, the drain settles: every request comes home, and what was given
-/// before begins what is given then.
+/// Where an unplug is the one control left and nothing flies, the drain settles: the `settled` line is the last of all, every
+/// request is at home, every datagram is at the peer or lost, and what was given before begins what is given then.
 pub fn cut_is_settled()
     ensures settled { CutIsSettled }
     ensures kept { GivenIsKept }

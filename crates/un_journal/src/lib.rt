@@ -2,9 +2,11 @@
 #![tactic(auto)]
 
 mod actions;
+mod boxed;
 mod buffer;
 mod census;
 mod controls;
+mod digits;
 mod got;
 mod heads;
 mod journal;
@@ -23,11 +25,12 @@ pub use actions::{Action, Answer};
 pub use buffer::{Buffer, number, word};
 pub use census::Census;
 pub use controls::{Control, Due, Planned};
+pub use digits::decode;
 pub use got::Got;
 pub use journal::Journal;
 pub use laws::{
     bytes_are_bounded, census_names_the_place, cut_is_settled, done_is_finished, drain_is_done,
-    finished_is_final, given_is_accepted, lines_are_bounded, lines_are_spelled,
+    finished_is_final, given_is_accepted, line_fixes_step, lines_are_bounded, lines_are_spelled,
     losses_are_licensed, nothing_is_lost, one_place, one_step, plain_words, pools_add_up,
     refusals_write_nothing, settled_is_home, steps_stay_legal, table_is_computed,
 };

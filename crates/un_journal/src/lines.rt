@@ -2,8 +2,8 @@
 
 use un_frame::{FaultKind, Lane, Verdict};
 
-/// One line of a history: a step of the link that changed it, or a part of one. The 18 kinds and their words in the trace
-/// are this project's own. `Made` and `Gave` carry at least one byte, the other kinds none.
+/// One line of a history: a step of the link that changed it, or a part of one. `Made` and `Gave` carry at least one byte, the
+/// other 16 kinds none.
 #[derive(Clone, Copy, Debug, PartialEq, Eq)]
 pub enum Line {
     /// The head of the sender's feed was accepted, as the lane's next datagram.
@@ -95,7 +95,7 @@ pub enum Line {
         index: u32,
         forced: bool,
     },
-    /// A stop was settled; the four numbers of requests at home.
+    /// A stop was settled, with every request at home; the four numbers of requests at home.
     Settled {
         tx_out: u32,
         rx_out: u32,

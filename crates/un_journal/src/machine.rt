@@ -14,7 +14,7 @@ use std::collections::LinkedList;
 use un_frame::Lane;
 
 /// A transfer as plain data: its lane, its serial, its span (`from` inclusive, `to` exclusive, in datagrams) and its bytes. No
-/// value of it is made: contracts alone speak of it (this project's own).
+/// value of it is made: contracts alone speak of it.
 pub struct Transfer {
     pub lane: Lane,
     pub serial: u64,
@@ -24,7 +24,7 @@ pub struct Transfer {
 }
 
 /// A flight that is out of a machine, as plain data: its transfer, and the numbers and capacities (in bytes) of its transmit and
-/// its receive request. No value of it is made: contracts alone speak of it (this project's own).
+/// its receive request. No value of it is made: contracts alone speak of it.
 pub struct Flight {
     pub transfer: Transfer,
     pub tx: u32,
@@ -33,8 +33,7 @@ pub struct Flight {
     pub rx_capacity: u32,
 }
 
-/// A machine whose every call answers and writes what its script, its history and the call say, and nothing else (this project's
-/// own). The numbers and capacities of a flight's requests alone are the machine's choice.
+/// A machine whose every call answers and writes what its script, its history and the call say, and nothing else. The numbers and capacities of a flight's requests alone are the machine's choice.
 pub trait Machine: Drop {
     /// What can be done to it.
     type Act;
@@ -42,10 +41,10 @@ pub trait Machine: Drop {
     /// What it answers.
     type Ans;
 
-    /// A flight that was taken out of it. It is a moved value: it is carried once.
+    /// A flight that was taken out of it. It is a moved value that needs no `Drop`: who knows it by this trait alone can't lose it.
     type Part;
 
-    /// A flight whose bytes were copied. It is a moved value: it is landed once.
+    /// A flight whose bytes were copied. It is a moved value that needs no `Drop` either.
     type Done;
 
     /// The type of its script, which contracts see as plain data.

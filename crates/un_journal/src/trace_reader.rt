@@ -10,6 +10,7 @@ ghost use Rattle.un_journal.specs.TraceLines.{entry_in, BytesRead, EntryRead};
 ghost use Rattle.un_journal.specs.TraceRead.{feeds, TraceReads};
 ghost use Rattle.un_journal.specs.declared.trace_reader.TraceError.TheVariants.{BadTrace};
 
+use crate::digits;
 use crate::journal::{Journal, Stored, journal_of};
 use crate::trace_lines::line;
 use crate::trace_words::is;
@@ -60,7 +61,7 @@ fn decode(bytes: &mut [u8], from: usize, digits: &[u8]) -> bool
     requires room { length digits.now ≡ 2 * (length bytes.old - from) }
     ensures { MatchResult (decode_of digits.now) (λ more. (result ≡ true) × (bytes.new ≡ take from bytes.old ++ more)) (λ _. result ≡ false) }
 {
-    hex::decode_to_slice(digits, &mut bytes[from..]).is_ok()
+    digits::decode(digits, &mut bytes[from..])
 }
 
 /// Adds the bytes that lower-case digits spell in pairs.

@@ -1,4 +1,4 @@
--- What the lines of a lane, g, the newest first, count to, where un_journal has no word for it. All of it is this project's own.
+-- What the lines of a lane, g, the newest first, count to, where un_journal has no word for it.
 use Rattle.std.specs.Prelude.{ℕ, ◌+◌, ◌-◌, ◌*◌, ◌/◌, ◌<◌, ◌≤◌, Bool, true, false, List, [], ◌∷◌, length, Option, Some, None}
 use Rattle.un_frame.specs.declared.kinds.Verdict.{Verdict}
 use Rattle.un_frame.specs.declared.kinds.Verdict.TheVariants.{Short, Long, Filtered}

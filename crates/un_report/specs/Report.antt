@@ -1,4 +1,4 @@
--- The text of a report, as a function of the script, the agreement and the history. Its words are this project's own.
+-- The text of a report, as a function of the script, the agreement and the history.
 use Rattle.std.specs.Prelude.{ℕ, List, [], ◌∷◌, ◌++◌, codes, decimal, Option, Some, None, if◌then◌else◌}
 use Rattle.std.specs.List.{flat_map}
 use Rattle.hex.specs.Hex.{encode_lower}

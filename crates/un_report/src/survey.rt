@@ -67,7 +67,8 @@ fn after_line(script: &Script, phase: Phase, line: Line) -> Phase
     }
 }
 
-/// Counts the lines of both lanes, for packets of so many bytes, and follows the phase.
+/// Counts the lines of both lanes, for packets of so many bytes, at least 8, and follows the phase. The history is a legal one of the
+/// script.
 pub fn go_over(script: &Script, journal: &Journal, packet: u32) -> Survey
     requires legal { Legal script.now journal.now.history }
     requires packet { 8 ≤ packet }

@@ -1,20 +1,18 @@
 -- Each line that is read leaves a ready script.
-use Rattle.std.proofs.Common.{◌≡◌, ℕ, ◌+◌, ◌<◌, ◌≤◌, Bool, true, false, ◌&&◌, ◌||◌, ◌==◌, nat_lt, not, is_some, if◌then◌else◌, List, [], ◌∷◌, ◌++◌, Option, Some, None, Result, Ok, Err, IsTrue, refl, subst, sym, arith, length}
+use Rattle.std.proofs.Common.{◌≡◌, ℕ, ◌+◌, ◌<◌, Bool, true, false, ◌&&◌, ◌||◌, ◌==◌, nat_lt, not, is_some, if◌then◌else◌, List, [], ◌∷◌, ◌++◌, Option, Some, None, Result, Ok, Err, refl, subst, arith, length}
 use Rattle.std.proofs.lemmas.Bool.{and_parts}
 use Rattle.std.proofs.lemmas.Bool.Decides.{nat_tests}
 use Rattle.std.specs.List.{list_any}
-use Rattle.std.specs.Prelude.{codes, All}
+use Rattle.std.specs.Prelude.{codes}
 use Rattle.std.specs.Result.{result_ok}
 use Rattle.std.specs.Str.{bytes_eq}
 use Rattle.hex.specs.declared.error.FromHexError.{FromHexError}
 use Rattle.hex.specs.Hex.{decode_of}
-use Rattle.un_frame.specs.Params.{AreInRange}
-use Rattle.un_frame.specs.declared.params.Lane.{Lane}
 use Rattle.un_journal.specs.declared.controls.Control.{Control as Command}
 use Rattle.un_journal.specs.Script.{Script, Frame, planned}
 use Rattle.un_script.specs.declared.why.Why.{Why}
 use Rattle.un_script.specs.declared.why.Why.TheVariants.{Word, Order, Number, Range, Hex, Count, Control, Fault}
-use Rattle.un_script.specs.Words.{is_empty, is_plain, is_spelled, words_of, lines_of, is_skipped}
+use Rattle.un_script.specs.Words.{is_empty, is_spelled, words_of, lines_of, is_skipped}
 use Rattle.un_script.specs.Numbers.{number_of, bytes_of, byte_of}
 use Rattle.un_script.specs.Table.{class_named, lane_named, kind_named, control_named, parameter_named, place_of, is_allowed, is_filter, is_pool_size, is_sender, is_want, is_planned_serial, may_follow, with_number, CLASS_PLACE, FILTER_PLACE, REQUESTS_PLACE, BODY_PLACE, MOST_FRAMES, MOST_CONTROLS, MOST_FAULTS, defaults}
 use Rattle.un_script.specs.Parts.{HasBytes, empty_script, with_frame, frame_count, may_come}
@@ -120,6 +118,10 @@ control_line_ready reading next l w command ready h =
     ready_as (now_at BODY_PLACE (record script { controls = script.controls ++ due_at lane want control ∷ [] })) next
     (control_ready script (due_at lane want control) (subst IsReady (is_placed BODY_PLACE reading script at) ready) (needed Range _ fits e4) (below _ _ (needed Count _ room e5)) (needed Control _ comes e6)) h6) h5) h4) h3) h2) h1) h0) h
 
+none_some : {X : Type 0} (o : Option X) → not (is_some o) ≡ true → o ≡ None
+none_some None h = refl
+none_some (Some x) h = absurd (cc)
+
 fault_line_ready : (reading next : Reading) (l k f : List ℕ) → IsReady reading.script → fault_line reading l k f ≡ Ok next → IsReady next.script
 fault_line_ready reading next l k f ready h =
     through (IsReady next.script) (given Word (lane_named l)) _ next (λ lane e0 h0.
@@ -130,7 +132,7 @@ fault_line_ready reading next l k f ready h =
     through (IsReady next.script) (needs Count (nat_lt (length script.faults) MOST_FAULTS)) _ next (λ room e5 h5.
     through (IsReady next.script) (needs Fault (not (is_some (planned script lane serial)))) _ next (λ first e6 h6.
     ready_as (now_at BODY_PLACE (record script { faults = script.faults ++ record { lane = lane; serial = serial; kind = kind } ∷ [] })) next
-    (fault_ready script (record { lane = lane; serial = serial; kind = kind }) (subst IsReady (is_placed BODY_PLACE reading script at) ready) (below _ _ (needed Count _ room e5))) h6) h5) h4) h3) h2) h1) h0) h
+    (fault_ready script (record { lane = lane; serial = serial; kind = kind }) (subst IsReady (is_placed BODY_PLACE reading script at) ready) (needed Range _ fits e4) (below _ _ (needed Count _ room e5)) (none_some _ (needed Fault _ first e6))) h6) h5) h4) h3) h2) h1) h0) h
 
 -- a choice of two lines
 either : (b : Bool) (r q : Result Reading Why) (next : Reading) (P : Type 0) → (r ≡ Ok next → P) → (q ≡ Ok next → P) → (if b then r else q) ≡ Ok next → P

@@ -1,4 +1,4 @@
--- The script of a load: so many frames, over both lanes and all senders in turn (this project's own).
+-- The script of a load: so many frames, over both lanes and all senders in turn.
 use Rattle.std.specs.Prelude.{ℕ, ◌+◌, ◌-◌, ◌/◌, ◌%◌, ◌==◌, ◌&&◌, Bool, List, [], ◌∷◌, ◌++◌, map, if◌then◌else◌}
 use Rattle.std.specs.Int.{to_be_bytes, w32}
 use Rattle.std.specs.List.{filter, range_with_len}

@@ -42,7 +42,7 @@ fn frame_of(alloc: Global, number: u32) -> Result<Vec<u8>, AllocError>
 
 /// Makes the script of a load of 1 to 65,536 frames: class ncm16 with all defaults, no controls and no faults. Frame `i` is outward where `i` is even and inward where it is odd; its sender
 /// is `i / 2 % 4`; it has `60 + i % 1400` bytes: the destination 020000000001, the source 020000000002, the type 0800, `i` as four bytes with the highest first, and then at each
-/// place `j` the byte `(i + j) % 256`. The load is this project's own. The one error is want of memory.
+/// place `j` the byte `(i + j) % 256`. The one error is want of memory.
 #[tactic(auto, using(crate::proofs::Loads::load_none, crate::proofs::Loads::load_more, crate::proofs::Loads::count_more, crate::proofs::Ranges::defaults_in_range))]
 pub fn generate(alloc: Global, count: u32) -> Result<Script, AllocError>
     requires least { 1 ≤ count }

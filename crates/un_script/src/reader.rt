@@ -15,10 +15,9 @@ use crate::table::{
     lane_named, may_follow, parameter_named, place_of, unlink_named, with_number,
 };
 use crate::why::{Refused, ScriptError, Why};
-use hex::FromHexError;
 use std::alloc::Global;
 use un_frame::{Bytes, Class};
-use un_journal::{Control, Due};
+use un_journal::{Control, Due, decode};
 
 const CLASS: u8 = 1;
 
@@ -182,11 +181,16 @@ fn bytes(alloc: Global, word: &[u8]) -> Result<Vec<u8>, Refused>
     ensures given { Gives (λ v. v.items) result (given Hex (bytes_of word.now)) }
     ensures some { IfOk result (λ v. 0 < length v.items) }
 {
-    match hex::decode(alloc, word) {
-        Ok(bytes) => Ok(bytes),
-        Err(FromHexError::OutOfMemory) => Err(Refused::NoMemory),
-        Err(_) => Err(Refused::Because(Why::Hex)),
+    if word.len() % 2 != 0 {
+        return Err(Refused::Because(Why::Hex));
     }
+    let Ok(mut bytes) = vec![in alloc; 0u8; word.len() / 2] else {
+        return Err(Refused::NoMemory);
+    };
+    if !decode(word, bytes.as_mut_slice()) {
+        return Err(Refused::Because(Why::Hex));
+    }
+    Ok(bytes)
 }
 
 /// `at L W CONTROL`
@@ -352,7 +356,7 @@ fn read_five(
 }
 
 /// Reads a script. Its lines are cut at line feeds, and the last may lack its own; a line that is empty or begins with `#` is skipped. The line `class C` comes first, then the lines of
-/// parameters in their order, each at most once, then the lines of frames, controls and planned faults in any order. The form is this project's own (docs/FORMATS.md has the whole table).
+/// parameters in their order, each at most once, then the lines of frames, controls and planned faults in any order. docs/FORMATS.md has the whole table.
 ///
 /// # Errors
 ///

@@ -81,7 +81,7 @@ fn nth(frames: &[Bytes], index: u64) -> Option<&[u8]>
 }
 
 /// A script: the parameters of a link, the frames that each sender of a lane has (its feed), the controls and the planned
-/// faults (this project's own). A lane has four senders, 0 to 3. There are at most 65,536 frames in both lanes together, 256
+/// faults. A lane has four senders, 0 to 3. There are at most 65,536 frames in both lanes together, 256
 /// controls and 1,024 faults.
 #[derive(Drop)]
 pub struct Script {
@@ -127,7 +127,7 @@ impl Script {
         }
     }
 
-    /// What each script has: its parameters are in their ranges, each frame has bytes, each control can follow the earlier ones, and there are no more of each than it may have.
+    /// What each script has: its parameters are in their ranges, each frame has bytes, each control can follow the earlier ones, each planned fault has a serial of 0 to 65,535, no lane and serial has two faults, and there are no more of each than it may have.
     pub fn is_ready(&self)
         ensures { IsReady self.now }
     {
@@ -217,7 +217,6 @@ impl Script {
     }
 
     /// Plans a fault for a transfer that has none planned. After the error, which is want of memory, the script is unchanged.
-    #[tactic(auto, using(crate::proofs::Readiness::fault_ready))]
     pub fn add_fault(&mut self, lane: Lane, serial: u64, kind: FaultKind) -> Result<(), AllocError>
         requires serial { IsTrue (is_planned_serial serial) }
         requires room { length self.old.faults < MOST_FAULTS }

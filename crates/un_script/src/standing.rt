@@ -5,7 +5,7 @@ ghost use Rattle.un_script.specs.Parts.{stands_after};
 
 use un_journal::Control;
 
-/// How a link stands after the controls so far, as far as they say which may follow (this project's own).
+/// How a link stands after the controls so far, as far as they say which may follow.
 #[derive(Clone, Copy, Debug, PartialEq, Eq)]
 pub enum Standing {
     /// It is up.

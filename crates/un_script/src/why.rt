@@ -3,7 +3,7 @@
 use std::fmt::{self, Display, Formatter, Write};
 use thiserror::Error;
 
-/// The first reason that applies to a line that is refused (this project's own).
+/// The first reason that applies to a line that is refused.
 #[derive(Clone, Copy, Debug, PartialEq, Eq)]
 pub enum Why {
     /// A byte is outside printable ASCII, a word is empty, or the first word, the number of words or a fixed word (class, lane, control, kind) is none of the table.
