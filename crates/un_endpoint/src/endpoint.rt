@@ -13,7 +13,7 @@ use std::marker::Model;
 use un_frame::FaultKind;
 use un_req::Request;
 
-/// The bus of one lane (this project's own): the queued transfers and the posted receive requests, each in a ring that is reserved when it is made, the marks of the first queued ones, and what is
+/// The bus of one lane: the queued transfers and the posted receive requests, each in a ring that is reserved when it is made, the marks of the first queued ones, and what is
 /// remembered of the flight that is out. It has each request that it was given in exactly one place until it gives it out. No call after `make` takes memory.
 #[derive(Drop)]
 pub struct Endpoint {

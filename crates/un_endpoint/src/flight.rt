@@ -8,8 +8,7 @@ use std::marker::Model;
 use un_packet::carry;
 use un_req::Request;
 
-/// A transmit and a receive request that were taken from an endpoint together; the second has room for the bytes of the first. It is a moved value: it is carried once.
-#[derive(Drop)]
+/// A transmit and a receive request that were taken from an endpoint together; the second has room for the bytes of the first. It is a moved value that can't be dropped: it is carried exactly once.
 pub struct Flight {
     tx: Request,
     rx: Request,
@@ -26,8 +25,7 @@ impl Model for Flight {
     ghost invariant = { λ f. length f.tx.bytes ≤ f.rx.capacity };
 }
 
-/// A flight whose receive request holds the transmit request's bytes, span and serial. It is a moved value: it is landed once.
-#[derive(Drop)]
+/// A flight whose receive request holds the transmit request's bytes, span and serial. It is a moved value that can't be dropped: it is landed exactly once.
 pub struct Carried {
     tx: Request,
     rx: Request,
@@ -100,6 +98,7 @@ impl Carried {
         ensures tx { result.0 ≡ self.tx }
         ensures rx { result.1 ≡ received self }
     {
-        (self.tx, self.rx)
+        let Carried { tx, rx } = self;
+        (tx, rx)
     }
 }

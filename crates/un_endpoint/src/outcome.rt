@@ -12,7 +12,6 @@ pub struct Full {
 }
 
 /// What `take` gave: a flight; a marked transfer that was given up for control `cause`; or why nothing was taken. It never answers `Flight` while one is out.
-#[derive(Drop)]
 pub enum Taken {
     Flight(Flight),
     Reaped { request: Request, cause: u32 },

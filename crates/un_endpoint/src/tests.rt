@@ -1,8 +1,50 @@
 //! One transfer from the queue to the copy of its flight: a full queue, no buffer, and the flight taken.
 
-use crate::{Endpoint, Landed, Taken};
+ghost use Rattle.std.specs.Prelude.{◌≡◌, IfSome, Some};
+ghost use Rattle.un_endpoint.specs.Bus.{record_of};
+
+use crate::{Endpoint, Flight, Landed, Taken};
 use std::test::Fail;
 use un_req::Pool;
+
+/// Why nothing is to be taken. A flight that is had all the same is landed.
+fn refusal(bus: &mut Endpoint, asleep: bool) -> &'static str
+    ensures { bus.new.largest ≡ bus.old.largest }
+{
+    match bus.take(asleep) {
+        None => "asleep",
+        Some(Taken::Flight(flight)) => {
+            bus.land(flight.carry(8), None);
+            "a flight"
+        }
+        Some(Taken::Reaped { request, cause: _ }) => {
+            drop(request);
+            "a marked transfer"
+        }
+        Some(Taken::Empty) => "nothing is queued",
+        Some(Taken::Flying { serial: _ }) => "a flight is out",
+        Some(Taken::Halted) => "halted",
+        Some(Taken::NoBuffer) => "no buffer",
+    }
+}
+
+/// The flight that is to be taken, if there is one.
+fn flown(bus: &mut Endpoint) -> Option<Flight>
+    ensures { IfSome result (λ flight. bus.new.flight ≡ Some (record_of flight)) }
+{
+    match bus.take(false) {
+        Some(Taken::Flight(flight)) => Some(flight),
+        Some(Taken::Reaped { request, cause: _ }) => {
+            drop(request);
+            None
+        }
+        Some(Taken::Flying { serial: _ }) => None,
+        Some(Taken::Empty) => None,
+        Some(Taken::Halted) => None,
+        Some(Taken::NoBuffer) => None,
+        None => None,
+    }
+}
 
 #[test]
 fn takes_and_lands(rt: HostRuntime) -> Result<(), Fail> {
@@ -21,18 +63,17 @@ fn takes_and_lands(rt: HostRuntime) -> Result<(), Fail> {
         (full.count, bus.queued(), bus.unmarked(), bus.census(5)),
         (1, 1, 1, (1, 0))
     );
-    assert!(rt; matches!(&bus.take(true), None));
-    assert!(rt; matches!(&bus.take(false), Some(Taken::NoBuffer)));
+    assert_eq!(rt; refusal(&mut bus, true), "asleep");
+    assert_eq!(rt; refusal(&mut bus, false), "no buffer");
     assert!(rt; bus.post(full.request).is_ok());
-    let Some(Taken::Flight(flight)) = bus.take(false) else {
-        panic!(rt; "no flight was taken");
-    };
-    assert_eq!(rt;
-        (flight.serial(), bus.flying(), bus.posted(), bus.census(5)),
-        (9, Some(9), 0, (0, 1))
-    );
+    let flight = flown(&mut bus).ok_or("no flight was taken")?;
+    let out = (flight.serial(), bus.flying(), bus.posted(), bus.census(5));
     let carried = flight.carry(8);
-    assert_eq!(rt; carried.serial(), 9);
+    let serial = carried.serial();
+    let landed = bus.land(carried, None);
+    assert!(rt; matches!(&landed, Landed::Arrived { .. }));
+    assert_eq!(rt; out, (9, Some(9), 0, (0, 1)));
+    assert_eq!(rt; (serial, bus.flying()), (9, None));
     Ok(())
 }
 
@@ -46,11 +87,10 @@ fn lands_a_marked_flight(rt: HostRuntime) -> Result<(), Fail> {
     let room = pool.take().ok_or("none is home")?;
     assert!(rt; bus.queue(sent).is_ok());
     assert!(rt; bus.post(room).is_ok());
-    let Some(Taken::Flight(flight)) = bus.take(false) else {
-        panic!(rt; "no flight was taken");
-    };
-    assert_eq!(rt; bus.mark_oldest(5), Some(7));
+    let flight = flown(&mut bus).ok_or("no flight was taken")?;
+    let marked = bus.mark_oldest(5);
     let landed = bus.land(flight.carry(8), None);
+    assert_eq!(rt; marked, Some(7));
     assert!(rt; matches!(&landed, Landed::Cut { cause: 5, .. }));
     assert_eq!(rt;
         (bus.flying(), bus.clear(), bus.halted()),

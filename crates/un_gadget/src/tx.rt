@@ -15,7 +15,7 @@ use un_frame::Params;
 use un_req::{Pool, Request};
 use un_wire::{Codec, Wire};
 
-/// Transmits to the host: the gadget's builder, the pool of its requests, and the list of the done ones (this project's own). It defers nothing. Each of its requests stands in one place at most.
+/// Transmits to the host: the gadget's builder, the pool of its requests, and the list of the done ones. It defers nothing. Each of its requests stands in one place at most.
 #[derive(Drop)]
 pub struct GadTx {
     wrap: GadWrap,

@@ -15,7 +15,7 @@ use un_frame::Params;
 use un_req::{Pool, Request};
 use un_wire::{Codec, Wire};
 
-/// Transmits to the gadget: the host's builder, the pool of its requests, and the lists of the deferred and the done ones (this project's own). Each of its requests stands in one place at most.
+/// Transmits to the gadget: the host's builder, the pool of its requests, and the lists of the deferred and the done ones. Each of its requests stands in one place at most.
 #[derive(Drop)]
 pub struct HostTx {
     agg: HostAgg,

@@ -14,7 +14,7 @@ use std::marker::Model;
 use un_endpoint::{Endpoint, RxEnd, TxEnd};
 use un_frame::Lane;
 
-/// One lane of a link (this project's own): a transmitting end, an endpoint and a receiving end, the number of datagrams that were accepted and that of transfers that were made. Contracts see it as a `Way`
+/// One lane of a link: a transmitting end, an endpoint and a receiving end, the number of datagrams that were accepted and that of transfers that were made. Contracts see it as a `Way`
 /// and say that it stands for the lane's lines in a journal. No call after `make` takes memory, and none reads the journal.
 #[derive(Drop)]
 pub struct Path<T: TxEnd + Drop, R: RxEnd + Drop> {

@@ -30,7 +30,7 @@ use Rattle.un_link.specs.Flights.{LaneTrip, flight_of, got_outcome, taken_of, ta
 use Rattle.un_link.proofs.Controlling.{same_steps}
 use Rattle.un_link.proofs.Frames.{is_calm, calm_same}
 use Rattle.un_link.proofs.Holding.{act_logged, read_same, is_worked}
-use Rattle.un_link.proofs.SameFlights.{same_flight-is, same_flight-refl}
+use Rattle.un_journal.proofs.Flights.{same_flight-is, same_flight-refl}
 
 -- THE INVARIANT
 

@@ -9,7 +9,6 @@ pub mod Fresh
 pub mod Resting
 pub mod Agreeing
 pub mod Draining
-pub mod SameFlights
 pub mod Takings
 pub mod Flights
 pub mod BothLanes

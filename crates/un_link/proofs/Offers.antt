@@ -14,6 +14,7 @@ use Rattle.un_frame.specs.Verdict.{verdict_of, is_kept_out}
 use Rattle.un_endpoint.specs.EndOutcomes.{with_frame}
 use Rattle.un_journal.specs.declared.lines.Line.{Line}
 use Rattle.un_journal.specs.declared.lines.Line.TheVariants.{Took, Refused}
+use Rattle.un_journal.specs.declared.actions.Action.{Action}
 use Rattle.un_journal.specs.declared.actions.Answer.{Answer}
 use Rattle.un_journal.specs.Script.{Script, Frame, frames_of, Feeds, feed_list}
 use Rattle.un_journal.specs.History.{History, past, taken, cover, consumed, more_if}
@@ -21,7 +22,7 @@ use Rattle.un_journal.specs.Log.{Log}
 use Rattle.un_frame.specs.Cut.{closed_span}
 use Rattle.un_journal.specs.Lookup.{tx_home, offer_needs_home, is_asleep, works, phase_of, built_frames, datagrams, feed_head}
 use Rattle.un_journal.specs.LaneSteps.{Outcome, Writes, Answers, lines_in, answer_in, bare, accept, made_lines}
-use Rattle.un_journal.specs.Step.{Work, work, judge, offer_head, is_still}
+use Rattle.un_journal.specs.Step.{Work, work, judge, offer_head, is_still, step_of}
 use Rattle.un_journal.specs.Sound.{IsSound}
 use Rattle.un_journal.proofs.Formed.{count_datagrams}
 use Rattle.un_journal.proofs.LinkFacts.{past_short}
@@ -323,3 +324,10 @@ pub take_still : (script : Script) (phase : Phase) (way : Way) (h : History) (se
     → feed_head script way.lane (past way.lane h) sender ≡ Some frame → verdict_of script.params way.lane frame ≡ Take
     → is_still (work script h (Work.Offer way.lane sender)) ≡ is_still (accept way.tx.params way.lane sender (with_frame way.tx frame) (past way.lane h))
 take_still script phase way h sender frame k p w head v = ap is_still (accept_is script phase way h sender frame k p w head v)
+
+-- an offer from a feed without a further frame writes nothing
+pub spent_writes : (script : Script) (h : History) (lane : Lane) (c : Cursors) (s at : ℕ) → AreRead c (past lane h) → at ≡ cursor_at c s
+    → slice_get (frames_of script lane s) at ≡ None → step_of script h (Action.Offer lane s) ≡ []
+spent_writes script h lane c s at r a none =
+    let head : feed_head script lane (past lane h) s ≡ None = head_is script lane (past lane h) c s r ∙ ap (slice_get (frames_of script lane s)) (sym a) ∙ none in
+    rw head refl

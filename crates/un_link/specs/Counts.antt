@@ -1,4 +1,4 @@
--- Counts of a census (this project's own).
+-- Counts of a census.
 use Rattle.std.specs.Prelude.{ℕ, ◌+◌, Bool, false, ◌&&◌, ◌==◌}
 use Rattle.un_frame.specs.declared.params.Lane.{Lane}
 use Rattle.un_frame.specs.Lanes.{same_lane}

@@ -1,4 +1,4 @@
--- One turn of the drain's loop (this project's own).
+-- One turn of the drain's loop.
 use Rattle.std.specs.Prelude.{◌≡◌, ◌<◌, Bool, true, false, length}
 use Rattle.un_journal.specs.Drain.{drain}
 use Rattle.un_journal.specs.Fits.{Legal}

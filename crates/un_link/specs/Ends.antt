@@ -1,4 +1,4 @@
--- When a link is finished (this project's own).
+-- When a link is finished.
 use Rattle.std.specs.Prelude.{Bool, ◌&&◌, ◌==◌, reverse, length}
 use Rattle.std.specs.List.{list_all}
 use Rattle.un_frame.specs.declared.params.Lane.{Lane}

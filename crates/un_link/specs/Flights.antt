@@ -1,4 +1,4 @@
--- Flights of a link, and what taking and landing them says (this project's own).
+-- Flights of a link, and what taking and landing them says.
 use Rattle.std.specs.Prelude.{◌≡◌, ℕ, List, [], ◌∷◌, Option, Some, None}
 use Rattle.un_frame.specs.declared.params.Lane.{Lane}
 use Rattle.un_frame.specs.declared.params.Lane.TheVariants.{Outward, Inward}

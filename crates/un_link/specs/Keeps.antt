@@ -1,4 +1,4 @@
--- What holds of one lane of a link: its path, and how far its feeds are read (this project's own).
+-- What holds of one lane of a link: its path, and how far its feeds are read.
 use Rattle.std.specs.Prelude.{◌≡◌, ℕ, ◌+◌, ◌==◌, if◌then◌else◌}
 use Rattle.un_frame.specs.declared.params.Lane.{Lane}
 use Rattle.un_frame.specs.declared.kinds.Phase.{Phase}

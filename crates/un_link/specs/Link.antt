@@ -1,4 +1,4 @@
--- A link as plain data, and what holds of each link at every moment (this project's own).
+-- A link as plain data, and what holds of each link at every moment.
 use Rattle.std.specs.Prelude.{◌≡◌, ℕ, ◌+◌, ◌<◌, ◌^◌, ◌++◌, List, [], ◌∷◌, length, reverse, Option, Some, None}
 use Rattle.un_frame.specs.declared.params.Lane.{Lane}
 use Rattle.un_frame.specs.declared.params.Lane.TheVariants.{Outward, Inward}

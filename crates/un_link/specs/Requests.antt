@@ -1,4 +1,4 @@
--- Where the requests of a lane are (this project's own).
+-- Where the requests of a lane are.
 use Rattle.std.specs.Prelude.{◌≡◌, ℕ, ◌+◌, ◌<◌, length}
 use Rattle.un_endpoint.specs.Ends.{tx_copies, rx_copies, tx_count, rx_count}
 use Rattle.un_lane.specs.Way.{Way}

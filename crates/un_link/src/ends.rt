@@ -12,7 +12,7 @@ use un_host::{HostRx, HostTx};
 use un_script::Script;
 use un_setup::Agreed;
 
-/// A link between the host's two ends and the gadget's (this project's own).
+/// A link between the host's two ends and the gadget's.
 pub type Link = LinkOver<HostTx, GadRx, GadTx, HostRx>;
 
 impl LinkOver<HostTx, GadRx, GadTx, HostRx> {

@@ -6,8 +6,7 @@ use std::marker::Model;
 use un_endpoint::{Carried, Flight};
 use un_frame::Lane;
 
-/// A flight with its lane, and the packet size (8 to 1,024 bytes) in which it is copied. It is a moved value: it is carried once.
-#[derive(Drop)]
+/// A flight with its lane, and the packet size (8 to 1,024 bytes) in which it is copied. It is a moved value that can't be dropped: it is carried exactly once.
 pub struct LinkFlight {
     pub(crate) lane: Lane,
     pub(crate) packet: u32,
@@ -25,8 +24,7 @@ impl Model for LinkFlight {
     ghost invariant = { λ f. 8 ≤ f.packet };
 }
 
-/// A flight whose bytes were copied, with its lane. It is a moved value: it is landed once.
-#[derive(Drop)]
+/// A flight whose bytes were copied, with its lane. It is a moved value that can't be dropped: it is landed exactly once.
 pub struct LinkCarried {
     pub(crate) lane: Lane,
     pub(crate) carried: Carried,
@@ -41,7 +39,8 @@ impl Model for LinkCarried {
 }
 
 impl LinkFlight {
-    /// Copies the bytes packet by packet, and the span and the serial. This takes no turn, no link and no memory.
+    /// Copies the bytes, the span and the serial: the carried flight is this one. That the bytes go over packet by packet is how it is
+    /// built. This takes no turn, no link and no memory.
     pub fn carry(self) -> LinkCarried
         ensures { result ≡ self }
     {

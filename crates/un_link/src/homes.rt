@@ -1,6 +1,6 @@
 //! How many requests are home.
 
-/// How many transmit and receive requests of each lane are home (this project's own).
+/// How many transmit and receive requests of each lane are home.
 #[derive(Clone, Copy, Debug, PartialEq, Eq)]
 pub struct Homes {
     pub tx_out: u32,

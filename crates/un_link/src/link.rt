@@ -27,7 +27,7 @@ use un_journal::Journal;
 use un_lane::Path;
 use un_script::Script;
 
-/// A link (this project's own): two lanes between a host and a gadget, the script that says what is sent and done, and the one history of both lanes. `A` and `B` are the outward lane's transmitting and receiving
+/// A link: two lanes between a host and a gadget, the script that says what is sent and done, and the one history of both lanes. `A` and `B` are the outward lane's transmitting and receiving
 /// ends, `C` and `D` those of the inward lane. Contracts see it as its script, its history, and the two paths; at every moment the history is legal and all that the link keeps is what the history says. No call
 /// after its making takes memory.
 #[derive(Drop)]

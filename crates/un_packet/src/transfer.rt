@@ -29,7 +29,7 @@ pub fn packet_at(bytes: &[u8], packet: u32, index: u64) -> &[u8]
     }
 }
 
-/// Copies a transfer from one request into another, packet by packet, with its span and serial. The receiver must have room for
+/// Copies a transfer from one request into another, with its span and serial; the code goes packet by packet. The receiver must have room for
 /// the sender's bytes; its number and capacity stay, all else becomes the sender's. No memory is taken.
 #[tactic(auto, using(crate::proofs::Pieces::pieces_more, crate::proofs::Pieces::pieces_all))]
 pub fn carry(from: &Request, into: &mut Request, packet: u32)

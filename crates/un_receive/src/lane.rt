@@ -6,7 +6,7 @@ ghost use Rattle.un_frame.specs.declared.params.Lane.TheVariants as lane;
 
 use un_frame::Lane;
 
-/// A type that names a lane (this project's own).
+/// A type that names a lane.
 pub trait OnLane {
     ghost LANE: { Lane };
 

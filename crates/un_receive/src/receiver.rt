@@ -26,8 +26,8 @@ pub(crate) struct Current {
     next: u64,
 }
 
-/// The receiving end of the lane that `L` names (this project's own): the pool of its requests, the list of the arrived ones, and the current one with a cursor over
-/// its parts. Each of its requests stands in one place at most. It has no bytes but those of its requests: a datagram is lent from the request that it came in.
+/// The receiving end of the lane that `L` names: the pool of its requests, the list of the arrived ones, and the current one with a cursor over
+/// its parts. Each of its requests stands in one place at most. By its fields it has no bytes but those of its requests: a datagram is lent from the request that it came in.
 #[derive(Drop)]
 pub struct LaneRx<L> {
     codec: Codec,

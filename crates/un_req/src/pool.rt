@@ -7,8 +7,8 @@ use crate::request::Request;
 use std::alloc::{AllocError, Global};
 use std::marker::Model;
 
-/// A pool of requests of one capacity (this project's own). It holds those that are home; each number below the count is home or in
-/// one value outside. No call after `make` takes memory.
+/// A pool of requests of one capacity. It holds those that are home; as a request can't be cloned, each number below
+/// the count is home or in one value outside. No call after `make` takes memory.
 #[derive(Drop)]
 pub struct Pool {
     home: Vec<Request>,

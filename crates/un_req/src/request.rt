@@ -7,7 +7,7 @@ use crate::bytes::{append, append_zeros, overwrite};
 use std::alloc::{AllocError, Global};
 use std::marker::Model;
 
-/// A USB request: room for one bulk transfer, and the transfer that stands in it (this project's own).
+/// A USB request: room for one bulk transfer, and the transfer that stands in it.
 ///
 /// It has a number in its pool, a capacity in bytes that is reserved when the pool is made, the bytes (at most the capacity), the
 /// span of datagrams from `from` (inclusive) to `to` (exclusive), and the transfer's serial. It can't be cloned: a request is

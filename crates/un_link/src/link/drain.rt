@@ -1,11 +1,14 @@
 //! The serial drain.
 
-ghost use Rattle.std.specs.Prelude.{◌≡◌, ◌<◌, [], Some, slice_get};
+ghost use Rattle.std.specs.Prelude.{◌≡◌, ◌<◌, ◌++◌, [], Some, slice_get, true};
 ghost use Rattle.un_frame.specs.declared.params.Lane.{Lane as JournalLane};
+ghost use Rattle.un_frame.specs.declared.params.Lane.TheVariants.{Outward, Inward};
+ghost use Rattle.un_journal.specs.declared.actions.Action.TheVariants.{Offer};
 ghost use Rattle.un_journal.specs.Done.{IsFinished};
 ghost use Rattle.un_journal.specs.Drain.{drain, round, run};
 ghost use Rattle.un_journal.specs.Fits.{IsDone};
 ghost use Rattle.un_journal.specs.History.{given, past};
+ghost use Rattle.un_journal.specs.Step.{step_of};
 ghost use Rattle.un_journal.specs.Unplug.{AwaitsUnplug, IsPrefix, IsSettledAway};
 ghost use Rattle.un_link.specs.Drain.{DrainsOn};
 ghost use Rattle.un_link.specs.Link.{flights_of};
@@ -15,8 +18,8 @@ use un_endpoint::{RxEnd, TxEnd};
 use un_frame::Lane;
 use un_journal::{Action, Answer};
 
-/// A round of the serial drain: the 26 actions, each once, in this order; the first is the control's. The order is this project's own.
-pub const ROUND: [Action; 26] = [
+/// A round of the serial drain: the 26 actions, each once, in this order; the first is the control's.
+pub static ROUND: [Action; 26] = [
     Action::Control { force: false },
     Action::Refill {
         lane: Lane::Outward,
@@ -86,7 +89,7 @@ pub const ROUND: [Action; 26] = [
 ];
 
 impl<A: TxEnd + Drop, B: RxEnd + Drop, C: TxEnd + Drop, D: RxEnd + Drop> LinkOver<A, B, C, D> {
-    /// Repeats a round of every action; after a round that did nothing the next control is forced. It ends where no control is left. No flight is out at its start; afterwards the link is finished. Where an unplug was the one control left it is away and settled. What was given before begins what is given then.
+    /// Repeats a round of every action; after a round that did nothing the next control is forced. It ends where no control is left. No flight is out at its start; afterwards the link is finished. Where an unplug was the one control left it is away: the `settled` line is the last of its history, every request is at home, and every datagram is at the peer or lost. What was given before begins what is given then.
     pub fn drain(&mut self)
         requires { flights_of self.old ≡ [] }
         ensures script { self.new.script ≡ self.old.script }
@@ -121,7 +124,56 @@ impl<A: TxEnd + Drop, B: RxEnd + Drop, C: TxEnd + Drop, D: RxEnd + Drop> LinkOve
         ensures flights { flights_of self.new ≡ flights_of self.old }
     {
         for index in 0..26 {
-            self.step(action_at(index));
+            self.perform(action_at(index));
+        }
+    }
+
+    /// Performs an action of the round. An offer from a feed without a further frame would write nothing, so it isn't made: most
+    /// offers are such, and seeing it costs less than the answer.
+    fn perform(&mut self, action: Action)
+        ensures script { self.new.script ≡ self.old.script }
+        ensures history { self.new.log.history ≡ self.old.log.history ++ step_of self.old.script self.old.log.history action }
+        ensures flights { flights_of self.new ≡ flights_of self.old }
+    {
+        if !self.is_spent(action) {
+            self.step(action);
+        }
+    }
+
+    /// Whether an action is an offer from a feed without a further frame.
+    fn is_spent(&self, action: Action) -> bool
+        ensures { result ≡ true → step_of self.now.script self.now.log.history action ≡ [] }
+    {
+        match action {
+            Action::Offer {
+                lane: Lane::Outward,
+                sender,
+            } => self.is_out_spent(sender),
+            Action::Offer {
+                lane: Lane::Inward,
+                sender,
+            } => self.is_in_spent(sender),
+            _ => false,
+        }
+    }
+
+    fn is_out_spent(&self, sender: u32) -> bool
+        ensures { result ≡ true → step_of self.now.script self.now.log.history (Offer Outward sender) ≡ [] }
+    {
+        let at = self.out_read.at(sender);
+        match self.script.frame(Lane::Outward, sender, at) {
+            Some(_) => false,
+            None => true,
+        }
+    }
+
+    fn is_in_spent(&self, sender: u32) -> bool
+        ensures { result ≡ true → step_of self.now.script self.now.log.history (Offer Inward sender) ≡ [] }
+    {
+        let at = self.in_read.at(sender);
+        match self.script.frame(Lane::Inward, sender, at) {
+            Some(_) => false,
+            None => true,
         }
     }
 }

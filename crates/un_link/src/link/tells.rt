@@ -30,7 +30,7 @@ impl<A: TxEnd + Drop, B: RxEnd + Drop, C: TxEnd + Drop, D: RxEnd + Drop> LinkOve
     }
 
     /// Lends the history. It is legal, and at every moment, that is after each of its steps, the laws hold: each accepted datagram is in exactly one place; what was given rises strictly and is unchanged; each
-    /// loss has its cause; and where a stop settled, every request was home.
+    /// loss has its cause; and each `settled` line found every request home, as its four numbers say.
     pub fn journal(&self) -> &Journal
         ensures log { result.now ≡ self.now.log }
         ensures legal { Legal self.now.script self.now.log.history }

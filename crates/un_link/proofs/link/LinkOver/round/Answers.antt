@@ -6,10 +6,10 @@ use Rattle.un_link.proofs.link.LinkOver.round.Goals as goal
 
 pub loop-index-preserved : goal.loop-index-preserved
 loop-index-preserved g c = record {
-  script = c.step.ensures.script ∙ c.loop-index.invariant.script;
-  history = run_more c.args.self.now.script c.args.self.now.log.history c.loop-index.self.log.history c.step.new.self.log.history round c.loop-index.index c.action_at.result c.action_at.ensures c.loop-index.invariant.history
-      (c.step.ensures.history ∙ ap (λ s. c.loop-index.self.log.history ++ step_of s c.loop-index.self.log.history c.action_at.result) c.loop-index.invariant.script);
-  flights = c.step.ensures.flights ∙ c.loop-index.invariant.flights;
+  script = c.perform.ensures.script ∙ c.loop-index.invariant.script;
+  history = run_more c.args.self.now.script c.args.self.now.log.history c.loop-index.self.log.history c.perform.new.self.log.history round c.loop-index.index c.action_at.result c.action_at.ensures c.loop-index.invariant.history
+      (c.perform.ensures.history ∙ ap (λ s. c.loop-index.self.log.history ++ step_of s c.loop-index.self.log.history c.action_at.result) c.loop-index.invariant.script);
+  flights = c.perform.ensures.flights ∙ c.loop-index.invariant.flights;
 }
 
 pub returns-clause-history : goal.returns-clause-history
