@@ -6,6 +6,7 @@ ghost use Rattle.un_share.specs.Workers.{Worked};
 
 use crate::gate::Gate;
 use crate::roles::LAST_ACTOR;
+use crate::rota::Rota;
 use crate::workers::run;
 use std::sync::Wait;
 use std::thread::{Threads, join};
@@ -53,6 +54,7 @@ pub trait Shop<S> {
         rt: &R,
         place: Self::Place,
         gate: &G,
+        rota: &Rota,
         actor: u32,
     ) -> Self::Place
         requires here { is_here self.now place }
@@ -78,8 +80,15 @@ impl<M: Machine<Act = Action, Ans = Answer>> Shop<M::Script> for Turn<M> {
         Turn::join(self, left, right)
     }
 
-    fn work<R: Wait, G: Gate>(&self, rt: &R, place: Seat<M>, gate: &G, actor: u32) -> Seat<M> {
-        run(rt, self, place, gate, actor)
+    fn work<R: Wait, G: Gate>(
+        &self,
+        rt: &R,
+        place: Seat<M>,
+        gate: &G,
+        rota: &Rota,
+        actor: u32,
+    ) -> Seat<M> {
+        run(rt, self, place, gate, rota, actor)
     }
 }
 
@@ -89,6 +98,7 @@ fn crew<R: Threads + Wait + Sync, S, T: Shop<S, Place = P> + Sync, P: Send + Dro
     shop: &T,
     place: P,
     gate: &G,
+    rota: &Rota,
     actor: u32,
 ) -> P
     requires here { T.is_here shop.now place }
@@ -99,7 +109,7 @@ fn crew<R: Threads + Wait + Sync, S, T: Shop<S, Place = P> + Sync, P: Send + Dro
     ensures worked { Worked T.is_finished (T.view place) (T.view result) (65536 * (11 - actor)) }
 {
     if actor >= LAST_ACTOR {
-        return shop.work(rt, place, gate, actor);
+        return shop.work(rt, place, gate, rota, actor);
     }
     let (others, mine) = shop.split(place);
     let (others, mine) = join(
@@ -108,18 +118,18 @@ fn crew<R: Threads + Wait + Sync, S, T: Shop<S, Place = P> + Sync, P: Send + Dro
             requires { IsSync R.row × IsSync T.row × IsSend P.row × IsSync G.row × T.is_here shop.now others × ((T.view others).known ≡ []) × (actor < 10) × (10 ≤ (T.view others).shares + actor) }
             ensures here { T.is_here shop.entry.now result }
             ensures worked { Worked T.is_finished (T.view others) (T.view result) (65536 * (10 - actor)) }
-        { crew(rt, shop, others, gate, actor + 1) },
+        { crew(rt, shop, others, gate, rota, actor + 1) },
         move || -> P
             requires { T.is_here shop.now mine × ((T.view mine).known ≡ []) }
             ensures here { T.is_here shop.entry.now result }
             ensures worked { Worked T.is_finished (T.view mine) (T.view result) 65536 }
-        { shop.work(rt, mine, gate, actor) },
+        { shop.work(rt, mine, gate, rota, actor) },
     );
     shop.join(others, mine)
 }
 
-/// Runs the eleven workers, each in a thread of its own with a seat of its own, until the machine is finished or each has given up
-/// (this project's own). The seat has at least 11 shares and knows no flight. Afterwards it has the shares it had and knows no
+/// Runs the eleven workers, each in a thread of its own with a seat of its own, until the machine is finished or each has given up.
+/// The seat has at least 11 shares and knows no flight. Afterwards it has the shares it had and knows no
 /// flight, and what it has seen begins with what it had seen; and what it has seen has a beginning at which the machine is
 /// finished, or it has at least 720,896 calls more, which is 65,536 for each worker. It takes no memory and refuses nothing.
 pub fn run_workers<
@@ -133,5 +143,6 @@ pub fn run_workers<
     ensures turn { result.turn ≡ turn.now }
     ensures worked { Worked M.is_finished seat.view result.view 720896 }
 {
-    crew(rt, turn, seat, gate, 0)
+    let rota = Rota::new();
+    crew(rt, turn, seat, gate, &rota, 0)
 }

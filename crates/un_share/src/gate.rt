@@ -2,7 +2,7 @@
 
 use std::sync::Wait;
 
-/// What a test hangs on the workers, to put their holds in an order (this project's own). It gets no access to the machine, changes
+/// What a test hangs on the workers, to put their holds in an order. It gets no access to the machine, changes
 /// nothing of it and can't fail. A gate that never returns keeps its worker from returning.
 pub trait Gate {
     /// Before a worker's turn: the worker `actor` (0 to 10) is about to ask for its hold number `turn`, which counts from 0.

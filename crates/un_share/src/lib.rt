@@ -5,6 +5,9 @@ mod crew;
 mod gate;
 mod holds;
 mod roles;
+mod roster;
+mod rota;
+mod shift;
 #[cfg(test)]
 mod tests;
 mod workers;

@@ -1,5 +1,6 @@
-//! The eleven actors, and what each does at its turns (this project's own).
+//! The eleven actors, and what each does at its turns.
 
+use crate::roster::EVERYBODY;
 use un_frame::Lane;
 use un_journal::Action;
 
@@ -87,5 +88,56 @@ fn control(turn: u64) -> Action {
         },
         4 => Action::ClearHalt { lane: Lane::Inward },
         _ => Action::Settle,
+    }
+}
+
+/// How many of an actor's turns make a round, in which it tries all that it does.
+pub(crate) fn round_of(actor: u32) -> u64 {
+    match role_of(actor) {
+        Role::Sender { sender: _ } => 2,
+        Role::Timer { lane: _ } | Role::Completion { lane: _ } => 1,
+        Role::BottomHalf {
+            sends: _,
+            receives: _,
+        } => 4,
+        Role::Control => 6,
+    }
+}
+
+// Sets of actors: the senders, and of a lane its timer, its completion, and the bottom halves of its two ends.
+const SENDERS: u64 = 0b1111;
+
+const CONTROL: u64 = 1 << 10;
+
+fn timer(lane: Lane) -> u64 {
+    match lane {
+        Lane::Outward => 1 << 4,
+        Lane::Inward => 1 << 5,
+    }
+}
+
+fn completion(lane: Lane) -> u64 {
+    match lane {
+        Lane::Outward => 1 << 6,
+        Lane::Inward => 1 << 7,
+    }
+}
+
+const BOTTOM_HALVES: u64 = 0b11 << 8;
+
+/// Which actors may have got work by an action that did something; rather too many than too few.
+pub(crate) fn stirs(action: Action) -> u64 {
+    match action {
+        Action::Offer { lane, sender: _ } => timer(lane) | completion(lane),
+        Action::Tick { lane } => SENDERS | completion(lane),
+        Action::Move { lane: _ } => BOTTOM_HALVES | CONTROL,
+        Action::TxDone { lane } => SENDERS | timer(lane) | CONTROL,
+        Action::RxDone { lane: _ } => 0,
+        Action::Deliver { lane: _ } => CONTROL,
+        Action::Refill { lane } => completion(lane),
+        Action::Unlink { lane: _ }
+        | Action::ClearHalt { lane: _ }
+        | Action::Control { force: _ }
+        | Action::Settle => EVERYBODY,
     }
 }

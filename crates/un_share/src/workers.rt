@@ -6,6 +6,8 @@ ghost use Rattle.un_share.specs.Workers.{Worked};
 use crate::gate::Gate;
 use crate::holds::{act, land, take};
 use crate::roles::{Role, action_of, role_of};
+use crate::rota::Rota;
+use crate::shift::Shift;
 use std::sync::Wait;
 use un_frame::Lane;
 use un_journal::{Action, Answer, Got, Machine};
@@ -20,6 +22,27 @@ pub(crate) fn run<R: Wait, M: Machine<Act = Action, Ans = Answer>, G: Gate>(
     turn: &Turn<M>,
     seat: Seat<M>,
     gate: &G,
+    rota: &Rota,
+    actor: u32,
+) -> Seat<M>
+    requires turn { seat.turn ≡ turn.now }
+    requires none_known { seat.view.known ≡ [] }
+    ensures turn { result.turn ≡ turn.now }
+    ensures worked { Worked M.is_finished seat.view result.view 65536 }
+{
+    let mut shift = Shift::begin(rt, rota, actor);
+    let seat = take_turns(rt, turn, seat, gate, &mut shift, actor);
+    shift.end(rt);
+    seat
+}
+
+// The turns of a worker that has begun.
+fn take_turns<R: Wait, M: Machine<Act = Action, Ans = Answer>, G: Gate>(
+    rt: &R,
+    turn: &Turn<M>,
+    seat: Seat<M>,
+    gate: &G,
+    shift: &mut Shift<'_>,
     actor: u32,
 ) -> Seat<M>
     requires turn { seat.turn ≡ turn.now }
@@ -28,8 +51,8 @@ pub(crate) fn run<R: Wait, M: Machine<Act = Action, Ans = Answer>, G: Gate>(
     ensures worked { Worked M.is_finished seat.view result.view 65536 }
 {
     match role_of(actor) {
-        Role::Completion { lane } => complete(rt, turn, seat, gate, actor, lane),
-        role => perform(rt, turn, seat, gate, actor, role),
+        Role::Completion { lane } => complete(rt, turn, seat, gate, shift, actor, lane),
+        role => perform(rt, turn, seat, gate, shift, actor, role),
     }
 }
 
@@ -39,6 +62,7 @@ fn perform<R: Wait, M: Machine<Act = Action, Ans = Answer>, G: Gate>(
     turn: &Turn<M>,
     seat: Seat<M>,
     gate: &G,
+    shift: &mut Shift<'_>,
     actor: u32,
     role: Role,
 ) -> Seat<M>
@@ -54,12 +78,19 @@ fn perform<R: Wait, M: Machine<Act = Action, Ans = Answer>, G: Gate>(
             return seat;
         }
         gate.before(rt, actor, count);
-        let (answer, after) = act(rt, turn, seat, action_of(role, count));
+        let action = action_of(role, count);
+        let (answer, after) = act(rt, turn, seat, action);
         seat = after;
         match answer {
             None => return seat,
-            Some(Answer::Did) => idle = 0,
-            Some(_) => idle += 1,
+            Some(Answer::Did) => {
+                idle = 0;
+                shift.did(action);
+            }
+            Some(answer) => {
+                idle += 1;
+                shift.found(rt, answer);
+            }
         }
     }
     seat
@@ -71,6 +102,7 @@ fn complete<R: Wait, M: Machine<Act = Action, Ans = Answer>, G: Gate>(
     turn: &Turn<M>,
     seat: Seat<M>,
     gate: &G,
+    shift: &mut Shift<'_>,
     actor: u32,
     lane: Lane,
 ) -> Seat<M>
@@ -98,14 +130,17 @@ fn complete<R: Wait, M: Machine<Act = Action, Ans = Answer>, G: Gate>(
                 count = count.wrapping_add(1);
                 seat = land(rt, turn, after, done);
                 idle = 0;
+                shift.did(Action::Move { lane });
             }
             Some(Got::Cut) => {
                 seat = after;
                 idle = 0;
+                shift.did(Action::Move { lane });
             }
-            Some(Got::Not(_)) => {
+            Some(Got::Not(answer)) => {
                 seat = after;
                 idle += 1;
+                shift.found(rt, answer);
             }
         }
     }

@@ -1,4 +1,4 @@
--- A queue by its number of items and its history (this project's own, for tests of the turn).
+-- A queue by its number of items and its history, for tests of the turn.
 use Rattle.std.specs.Prelude.{ℕ, ◌+◌, Bool, true, false, ◌&&◌, nat_lt, nat_le, List, [], ◌∷◌, if◌then◌else◌}
 use Rattle.un_frame.specs.declared.params.Lane.{Lane}
 use Rattle.un_frame.specs.declared.params.Lane.TheVariants.{Outward, Inward}

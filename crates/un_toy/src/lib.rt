@@ -106,7 +106,8 @@ impl Machine for Queue {
     }
 
     fn land_part(&mut self, done: QueueDone) -> Answer {
-        self.land(done.serial);
+        let QueueDone { serial } = done;
+        self.land(serial);
         Answer::Did
     }
 

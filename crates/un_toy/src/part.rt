@@ -2,14 +2,12 @@
 
 ghost use Rattle.std.specs.Prelude.{◌≡◌};
 
-/// An item that was taken out of a queue. It is a moved value: it is carried once.
-#[derive(Drop)]
+/// An item that was taken out of a queue. It is a moved value that can't be dropped: it is carried exactly once.
 pub struct QueuePart {
     pub(crate) serial: u64,
 }
 
-/// An item that was carried. It is a moved value: it is landed once.
-#[derive(Drop)]
+/// An item that was carried. It is a moved value that can't be dropped: it is landed exactly once.
 pub struct QueueDone {
     pub(crate) serial: u64,
 }
@@ -19,8 +17,7 @@ impl QueuePart {
     pub fn carry(self) -> QueueDone
         ensures { result.serial ≡ self.serial }
     {
-        QueueDone {
-            serial: self.serial,
-        }
+        let QueuePart { serial } = self;
+        QueueDone { serial }
     }
 }

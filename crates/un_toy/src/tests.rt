@@ -43,10 +43,11 @@ fn a_flight_is_out_while_another_holds_the_turn(rt: HostRuntime) -> Result<(), F
     let one = guard.leave();
     let done = Queue::carry(part);
     let mut guard = turn.enter(&rt, two);
-    assert_eq!(rt; guard.perform(OFFER), Answer::Did);
+    let offered = guard.perform(OFFER);
     let two = guard.leave();
     let mut guard = turn.enter(&rt, one);
-    assert_eq!(rt; guard.land_part(done), Answer::Did);
+    let landed = guard.land_part(done);
+    assert_eq!(rt; (offered, landed), (Answer::Did, Answer::Did));
     turn.join(guard.leave(), two);
     Ok(())
 }

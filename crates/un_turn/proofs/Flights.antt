@@ -1,60 +1,9 @@
 -- Lists of flights.
-use Rattle.std.proofs.Common.{◌≡◌, ℕ, ◌+◌, ◌<◌, ◌≤◌, Bool, true, false, List, [], ◌∷◌, ◌++◌, cond, if◌then◌else◌, eqb, eqb-true, eq-eqb, ◌&&◌, refl, sym, ap, ◌∙◌, arith}
-use Rattle.std.proofs.lemmas.Slice.Eq.{bytes_eq-Decides}
-use Rattle.un_frame.specs.declared.params.Lane.{Lane}
-use Rattle.un_frame.specs.declared.params.Lane.TheVariants.{Outward, Inward}
-use Rattle.un_frame.specs.Lanes.{same_lane}
+use Rattle.std.proofs.Common.{◌≡◌, ℕ, ◌+◌, ◌<◌, ◌≤◌, Bool, true, false, List, [], ◌∷◌, ◌++◌, cond, if◌then◌else◌, refl, ap, arith}
 use Rattle.un_journal.specs.declared.machine.Flight.{Flight}
-use Rattle.un_journal.specs.declared.machine.Transfer.{Transfer}
 use Rattle.un_journal.specs.Census.{one_if}
-use Rattle.un_journal.specs.Flights.{times, same_transfer, same_flight, Loses}
-
--- lists of flights
-and_true : (a b : Bool) → (a && b) ≡ true → (a ≡ true) × (b ≡ true)
-and_true true b e = (refl, e)
-and_true false b e = absurd (cc)
-
-same_lane-is : (a b : Lane) → same_lane a b ≡ true → a ≡ b
-same_lane-is Outward Outward e = refl
-same_lane-is Inward Inward e = refl
-same_lane-is Outward Inward e = absurd (cc)
-same_lane-is Inward Outward e = absurd (cc)
-
-same_lane-refl : (a : Lane) → same_lane a a ≡ true
-same_lane-refl Outward = refl
-same_lane-refl Inward = refl
-
-same_transfer-is : (a b : Transfer) → same_transfer a b ≡ true → a ≡ b
-same_transfer-is a b e =
-    let p = and_true _ _ e in
-    let q = and_true _ _ p.1 in
-    let r = and_true _ _ q.1 in
-    let t = and_true _ _ r.1 in
-    let lane = same_lane-is a.lane b.lane p.0 in
-    let serial = eqb-true a.serial b.serial q.0 in
-    let from = eqb-true a.from b.from r.0 in
-    let to = eqb-true a.to b.to t.0 in
-    let bytes = (bytes_eq-Decides a.bytes b.bytes).0 t.1 in
-    λ i. record { lane = lane i; serial = serial i; from = from i; to = to i; bytes = bytes i }
-
-pub same_flight-is : (a b : Flight) → same_flight a b ≡ true → a ≡ b
-same_flight-is a b e =
-    let p = and_true _ _ e in
-    let q = and_true _ _ p.1 in
-    let r = and_true _ _ q.1 in
-    let t = and_true _ _ r.1 in
-    let transfer = same_transfer-is a.transfer b.transfer p.0 in
-    let tx = eqb-true a.tx b.tx q.0 in
-    let tx_capacity = eqb-true a.tx_capacity b.tx_capacity r.0 in
-    let rx = eqb-true a.rx b.rx t.0 in
-    let rx_capacity = eqb-true a.rx_capacity b.rx_capacity t.1 in
-    λ i. record { transfer = transfer i; tx = tx i; tx_capacity = tx_capacity i; rx = rx i; rx_capacity = rx_capacity i }
-
-same_transfer-refl : (a : Transfer) → same_transfer a a ≡ true
-same_transfer-refl a = simp (same_lane-refl a.lane, eq-eqb a.serial a.serial refl, eq-eqb a.from a.from refl, eq-eqb a.to a.to refl, (bytes_eq-Decides a.bytes a.bytes).1 refl)
-
-pub same_flight-refl : (a : Flight) → same_flight a a ≡ true
-same_flight-refl a = simp (same_transfer-refl a.transfer, eq-eqb a.tx a.tx refl, eq-eqb a.tx_capacity a.tx_capacity refl, eq-eqb a.rx a.rx refl, eq-eqb a.rx_capacity a.rx_capacity refl)
+use Rattle.un_journal.specs.Flights.{times, same_flight, Loses}
+use Rattle.un_journal.proofs.Flights.{same_flight-is, same_flight-refl}
 
 -- the list without a flight, once
 abbrev pub without : Flight → List Flight → List Flight

@@ -11,7 +11,8 @@ use Rattle.un_journal.specs.Census.{one_if}
 use Rattle.un_journal.specs.Flights.{times, same_flight, Gains, Loses, Takes}
 use Rattle.un_turn.specs.Views.{StartsWith, MovesOne, IsKept}
 use Rattle.un_turn.specs.Steps.{Sat, Won, entered}
-use Rattle.un_turn.proofs.Flights.{without, same_flight-is, same_flight-refl, times-append, times-without}
+use Rattle.un_journal.proofs.Flights.{same_flight-is, same_flight-refl}
+use Rattle.un_turn.proofs.Flights.{without, times-append, times-without}
 use Rattle.un_turn.proofs.Moves.{starts_refl, starts_trans}
 
 -- a flight that was not there makes none stand twice

@@ -1,4 +1,4 @@
--- What each step of a turn makes of the views that it changes, and what it tells its seat (this project's own). The kinds of step are
+-- What each step of a turn makes of the views that it changes, and what it tells its seat. The kinds of step are
 -- the split, the join, the exchange of the word that wins, the one that loses, and the store that frees the word; a load compares what
 -- two joined seats had seen.
 use Rattle.std.specs.Prelude.{◌≡◌, ◌≢◌, ℕ, ◌+◌, ◌-◌, ◌≤◌, true, false, List, [], ◌∷◌, Option, Some, None, length, nat_lt, if◌then◌else◌}

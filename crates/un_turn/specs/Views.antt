@@ -1,4 +1,4 @@
--- Seats and guards as contracts see them, and what they keep (this project's own).
+-- Seats and guards as contracts see them, and what they keep.
 use Rattle.std.specs.Prelude.{◌≡◌, ℕ, ◌+◌, ◌<◌, ◌≤◌, ◌⊎◌, Bool, true, false, List, ◌++◌, Option, Some}
 use Rattle.atomic_table.specs.Seated.{TableId}
 use Rattle.un_journal.specs.declared.machine.Flight.{Flight}

@@ -108,6 +108,7 @@ impl<M: Machine> Guard<'_, M> {
         } = self;
         drop(turn.table.shared.exchange(&mut token, 0, Some(machine)));
         turn.free::<Brand>(&mut token, called);
+        turn.wake();
         Seat { token }
     }
 }

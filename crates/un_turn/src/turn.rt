@@ -11,16 +11,22 @@ use crate::seat::{Seat, Token};
 use crate::view::View;
 use atomic_table::{Refused, Table};
 use std::alloc::{AllocError, Global};
+use std::hint::spin_loop;
 use std::marker::{Brand, Model};
 use std::snapshot::Snapshot;
 use std::sync::Wait;
-use std::thread;
+use std::sync::atomic::{AtomicU64, Ordering};
 use un_journal::Machine;
 
-/// A lock over one machine, under the rule of the turn (this project's own). Contracts see which turn it is.
+// The pauses between looks at a turn that is held, before the waiter sleeps: in all a few times the time of a hold.
+const PAUSES: [u32; 6] = [1, 2, 4, 8, 16, 32];
+
+/// A lock over one machine, under the rule of the turn. Contracts see which turn it is.
 #[derive(Drop)]
 pub struct Turn<M: Machine> {
     pub(crate) table: Table<Option<M>, View<M::Script>, Opening<M>, TurnRule<M>, Global>,
+    // How many sleep on the word, or are about to.
+    sleepers: AtomicU64,
 }
 
 impl<M: Machine> Model for Turn<M> {
@@ -51,7 +57,10 @@ impl<M: Machine> Turn<M> {
         let mut slots = Vec::with_capacity(alloc, 1)?;
         slots.push_reserved(Some(machine));
         match Table::new(alloc, &[0], slots, &about) {
-            Ok((table, token)) => Ok((Turn { table }, Seat { token })),
+            Ok((table, token)) => {
+                let sleepers = AtomicU64::new(0);
+                Ok((Turn { table, sleepers }, Seat { token }))
+            },
             Err(Refused { slots: _ }) => Err(AllocError),
         }
     }
@@ -98,7 +107,7 @@ impl<M: Machine> Turn<M> {
                 Ok(guard) => return guard,
                 Err(Held { word: _, seat }) => waiting = seat,
             }
-            thread::yield_now();
+            self.stand_by(rt);
         }
         unreachable!()
     }
@@ -146,12 +155,35 @@ impl<M: Machine> Turn<M> {
         ensures history { StartsWith (M.history result) seat.view.seen }
         ensures none_out { M.flights result ≡ [] }
     {
-        let Turn { table } = self;
+        let Turn { table, sleepers: _ } = self;
         let Seat { token } = seat;
         let mut closed = table.close_with(token);
         let machine = closed.take(0).unwrap();
         closed.free();
         machine
+    }
+
+    // Looks for a while whether the turn is free, and then sleeps until it is left. Who sleeps has counted itself before the kernel compares
+    // the word, and who leaves looks at the count after it stored the word: so one of the two sees the other, and no wake is lost.
+    fn stand_by<R: Wait>(&self, rt: &R) {
+        for pauses in PAUSES {
+            for _ in 0..pauses {
+                spin_loop();
+            }
+            if self.table.shared.peek(0) == 0 {
+                return;
+            }
+        }
+        self.sleepers.fetch_add(1, Ordering::SeqCst);
+        self.table.shared.park(rt, 0, 1);
+        self.sleepers.fetch_sub(1, Ordering::SeqCst);
+    }
+
+    // Wakes one of those who sleep until the turn is left.
+    pub(crate) fn wake(&self) {
+        if self.sleepers.load(Ordering::SeqCst) > 0 {
+            self.table.shared.wake_one(0);
+        }
     }
 
     // The store that frees the word.

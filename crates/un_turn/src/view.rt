@@ -3,7 +3,7 @@
 use std::collections::LinkedList;
 use un_journal::{Flight, Line};
 
-/// What a seat knows of its turn. No value of it is made: contracts alone speak of it (this project's own). `S` is the type of
+/// What a seat knows of its turn. No value of it is made: contracts alone speak of it. `S` is the type of
 /// the machine's script.
 pub struct View<S> {
     /// The machine's script; a seat that was joined away has none.
