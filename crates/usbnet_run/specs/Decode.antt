@@ -1,4 +1,4 @@
--- The command decode: the text of a decoded transfer, the line of a refused one, and how it ends. The texts are this project's own.
+-- The command decode: the text of a decoded transfer, the line of a refused one, and how it ends.
 use Rattle.std.specs.Prelude.{◌≡◌, ℕ, ◌+◌, List, [], ◌∷◌, ◌++◌, length, codes, decimal, Option, Some}
 use Rattle.std.specs.Io.KnownBytes.{Appends}
 use Rattle.hex.specs.Hex.{encode_lower}

@@ -8,3 +8,4 @@ pub mod Command
 pub mod Kept
 pub mod Loads
 pub mod Top
+pub mod Sinks

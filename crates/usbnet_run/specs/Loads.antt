@@ -1,4 +1,4 @@
--- How a load ends, and its line. The line is this project's own.
+-- How a load ends, and its line.
 use Rattle.std.specs.Prelude.{◌≡◌, ℕ, ◌+◌, List, ◌∷◌, ◌++◌, codes, decimal, Option}
 use Rattle.std.specs.Io.KnownBytes.{Appends}
 use Rattle.un_frame.specs.declared.params.Lane.TheVariants.{Outward, Inward}

@@ -1,4 +1,4 @@
--- How the run of a script ends. The texts are this project's own.
+-- How the run of a script ends.
 use Rattle.std.specs.Prelude.{◌≡◌, ℕ, List, ◌∷◌, ◌++◌, codes, decimal, Option, Ok, Err}
 use Rattle.std.specs.Io.KnownBytes.{Appends}
 use Rattle.un_frame.specs.declared.params.Lane.{Lane}

@@ -41,7 +41,7 @@ abbrev pub MainRefusalsAreExact : Type 0
 MainRefusalsAreExact = (words : List (List ℕ)) (given : List ℕ) (left held held' : Option (List ℕ)) (faults faults' status : ℕ)
     → MainEnds words given left held held' faults faults' status → MainRefusesExactly words given status
 
--- the sink grew by the trace and the report of the one history that the workers and the last drain leave
+-- the sink grew by the trace and the report of one history that run may end with
 pub record HasPrintedKept (text : List ℕ) (script : Script) (held held' : Option (List ℕ)) : Type 0 where
   pub agreed : Agreed
   pub history : History

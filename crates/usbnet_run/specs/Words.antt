@@ -1,4 +1,4 @@
--- What the program is asked to do, by the words after its name. The words are this project's own.
+-- What the program is asked to do, by the words after its name.
 use Rattle.std.specs.Prelude.{ℕ, List, [], ◌∷◌, codes, Option, Some, None, ◌&&◌, nat_le, if◌then◌else◌}
 use Rattle.std.specs.Str.{bytes_eq}
 use Rattle.un_frame.specs.declared.params.Class.{Class}

@@ -25,7 +25,7 @@ pub(crate) fn tell<O: Sink>(out: &mut O, line: &[u8])
 /// Does the command `serial`: reads a script from the source, runs its link by the serial drain, and adds the trace text of its history
 /// and the report to the sink. Does the
 /// command `decode` with the word of a class: reads one transfer's bytes, and adds the text of its frames. Other words are bad words.
-/// It always returns, and takes all memory before the first byte of output.
+/// It always returns. No call after the first byte of output has an answer for want of memory.
 ///
 /// The status is 0 where all output was written; 1 for want of memory; 2 where a read failed; 3 where a write failed, and then the
 /// sink has grown by a front of the output and not all; 4 where the words are no command, and then no byte was read; 5 where the

@@ -1,4 +1,4 @@
-//! The command decode: the frames of one transfer, as a text. The texts are this project's own.
+//! The command decode: the frames of one transfer, as a text.
 
 ghost use Rattle.std.specs.Prelude.{◌≡◌, ◌+◌, ◌≤◌, ◌++◌, [], length, OnOk, OnErr};
 ghost use Rattle.std.specs.Io.KnownBytes.{Appends};

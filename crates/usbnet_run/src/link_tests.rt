@@ -1,6 +1,8 @@
 //! A link of the real ends, one call after another: what each call answers, and the history that they leave.
 
-ghost use Rattle.std.specs.Prelude.{◌≡◌, [], IfOk, true};
+ghost use Rattle.std.specs.Prelude.{◌≡◌, [], IfOk};
+ghost use Rattle.un_journal.specs.declared.machine.Flight.{Flight};
+ghost use Rattle.un_journal.specs.Flights.{times};
 ghost use Rattle.un_link.specs.Link.{flights_of};
 
 use crate::tests::{Piece, filled};
@@ -54,13 +56,17 @@ pub(crate) fn traces(
     Ok(ran && sink.held() == text.as_slice())
 }
 
-/// Whether no flight of a lane is to be had, for this reason.
+/// Whether no flight of a lane is to be had, for this reason. One that is had all the same is landed, so as many are out as before.
 fn refuses_take(link: &mut Link, lane: Lane, wanted: Answer) -> bool
-    ensures { result ≡ true → flights_of link.new ≡ flights_of link.old }
+    ensures { (x : Flight) → times x (flights_of link.new) ≡ times x (flights_of link.old) }
 {
     match link.take_flight(lane) {
+        Got::Part(flight) => {
+            link.land_flight(flight.carry());
+            false
+        }
+        Got::Cut => false,
         Got::Not(answer) => answer == wanted,
-        _ => false,
     }
 }
 
@@ -70,9 +76,7 @@ fn lands_after_a_stop(link: &mut Link) -> bool {
     let Got::Part(flight) = link.take_flight(lane) else {
         return false;
     };
-    if !refuses_take(link, lane, Answer::Flying { serial: 0 }) {
-        return false;
-    }
+    let refuses = refuses_take(link, lane, Answer::Flying { serial: 0 });
     let stopping = answers(
         link,
         &[
@@ -87,7 +91,8 @@ fn lands_after_a_stop(link: &mut Link) -> bool {
             ),
         ],
     );
-    stopping && link.land_flight(flight.carry()) == Answer::Did
+    let lands = link.land_flight(flight.carry()) == Answer::Did;
+    refuses && stopping && lands
 }
 
 /// The calls around a flight that is marked while it is out.

@@ -118,8 +118,11 @@ fn print_load<O: Sink>(out: &mut O, count: u32, link: &Link) -> u8
     }
 }
 
-/// Runs the generated script of so many frames by the eleven workers and a last drain, and prints the sums of what was accepted, delivered and lost. The status is 0 where the line was written; 1 for want of
-/// memory, and then that line was written, or a front of it; 3 where a write failed. All memory is taken before the first byte of output.
+/// Runs the generated script of so many frames by the eleven workers and a last drain, and prints the sums of what was accepted,
+/// delivered and lost, counted over the lines of its history. The clauses say that the line is `taken N given N lost 0`, which the
+/// number alone fixes; that a link was run for it is how this is built, and tests show it. The status is 0 where the line was written;
+/// 1 for want of memory, and then the line `no memory` was written, or a front of it; 3 where a write failed. No call after the first
+/// byte of output has an answer for want of memory.
 pub(crate) fn load<R: Threads + Wait + Sync, O: Sink, G: Gate + Sync>(
     rt: &R,
     alloc: Global,

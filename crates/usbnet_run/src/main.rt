@@ -20,6 +20,7 @@ mod prepare;
 mod reading;
 mod run;
 mod serial;
+mod sinks;
 #[cfg(test)]
 mod tests;
 mod top;

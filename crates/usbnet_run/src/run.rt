@@ -39,8 +39,11 @@ fn work_and_print<R: Threads + Wait + Sync, O: Sink, G: Gate + Sync>(
     print(out, link.script(), &agreed, link.journal())
 }
 
-/// Runs a script's link by its eleven workers and a last drain, and prints the trace and the report of its one history. The status is 0 where both were written; 1 for want of memory; 3 where a write of
-/// them failed; 5 where the text is no script, and 6 where its parameters don't agree: of 1, 5 and 6 the line was written, or a front of it. All memory is taken before the first byte of output.
+/// Runs a script's link by its eleven workers and a last drain, and prints the trace and the report of its history. What is printed is
+/// of one history of the script, which is done and which the drain makes of a legal one (`IsKept`); that it is the workers' own is how
+/// `work` is built. The status is 0 where both were written; 1 for want of memory; 3 where a write of them failed; 5 where the text is
+/// no script, and 6 where its parameters don't agree: of 1, 5 and 6 the line was written, or a front of it. No call after the first
+/// byte of output has an answer for want of memory.
 pub(crate) fn run<R: Threads + Wait + Sync, O: Sink, G: Gate + Sync>(
     rt: &R,
     alloc: Global,

@@ -52,7 +52,7 @@ fn drain_and_print<O: Sink>(out: &mut O, prepared: Prepared) -> u8
 }
 
 /// Runs a script's link by its serial drain and prints the trace and the report. The status is 0 where both were written; 1 for want of memory; 3 where a write of them failed; 5 where the text is no script, and 6 where
-/// its parameters don't agree: of these the line was written, or a front of it. All memory is taken before the first byte of output.
+/// its parameters don't agree: of these the line was written, or a front of it. No call after the first byte of output has an answer for want of memory.
 pub fn serial<O: Sink>(alloc: Global, out: &mut O, text: Vec<u8>) -> u8
     ensures ends { Runs IsDrained text.items (O.held out.old) (O.held out.new) (O.faults out.old) (O.faults out.new) result }
     ensures never_falls { O.faults out.old ≤ O.faults out.new }

@@ -17,12 +17,21 @@ use std::thread::Threads;
 use un_io::{Sink, Source};
 use un_share::Gate;
 
-/// Does the command `run`: reads a script from the source, lets the eleven workers run its link under one turn and drains what they leave, and adds the trace text of the link's one history and the report
-/// to the sink. Does the command `load` with a number of frames from 1 to 65,536: the same with that many generated frames, of which it adds the line `taken N given N lost 0`; it reads nothing. All other words
-/// are those of `plain_command`. The gate hangs on the workers and gets no access to the link.
+/// Does the command `run`: reads a script from the source, lets the eleven workers run its link under one turn and drains what they
+/// leave, and adds the trace text of the link's history and the report to the sink. Does the command `load` with a number of frames
+/// from 1 to 65,536: the same with that many generated frames, of which it adds the line `taken N given N lost 0`; it reads nothing.
+/// All other words are those of `plain_command`. The gate hangs on the workers and gets no access to the link.
 ///
-/// The statuses are those of `plain_command`. Nothing here says that two workers run at a time, or that the workers end: a call that returns has these clauses, whatever order the seats win the turn in.
-/// All memory is taken before the first byte of output.
+/// What the clauses say of `run` at status 0: the source was read to its end, and told the text of a script whose parameters agree; the
+/// sink grew by the trace and the report of one history of that script; no step fits after it, and the drain makes it of a legal
+/// history out of which nothing flies; and where no fault is planned, nothing is stopped, cut or unplugged, and the link ends awake, it
+/// gives all that is to be taken. The printed text tells this history and no other (`the_history_is_one`). That it is the history which was kept under the turn is how `run` is built: the link moves into the turn and
+/// comes out of it. Tests show that, and that the workers run beside each other. Of `load` they say that the line was added and nothing
+/// was read; the line is fixed by its number, and that a link ran for it is built and tested in the same way.
+///
+/// The statuses are those of `plain_command`. Nothing here says that two workers run at a time, or that the workers end: a call that
+/// returns has these clauses, whatever order the seats win the turn in. No call after the first byte of output has an answer for want
+/// of memory.
 pub fn usbnet_main<R: Threads + Wait + Sync, I: Source, O: Sink, G: Gate + Sync>(
     rt: &R,
     alloc: Global,

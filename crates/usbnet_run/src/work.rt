@@ -14,8 +14,10 @@ use un_turn::Turn;
 /// How many workers share the turn.
 const WORKERS: u32 = 11;
 
-/// Lets all workers run a link out of which nothing flies, under one turn, and drains what they leave. Whatever order the seats win the turn in, the link has its script and the one history that was kept
-/// under the turn, extended by the drain. The error is want of memory, and comes before any worker starts.
+/// Lets all workers run a link out of which nothing flies, under one turn, and drains what they leave. Whatever order the seats win the
+/// turn in, the link has its script, and its history is what the drain makes of a legal history of it out of which nothing flies: so
+/// its clauses say. That it is the one history which was kept under the turn is how this is built: the link moves into the turn and
+/// out of it again. The error is want of memory; `make` alone can answer it, before any worker starts.
 pub(crate) fn work<R: Threads + Wait + Sync, G: Gate + Sync>(
     rt: &R,
     alloc: Global,
@@ -26,9 +28,10 @@ pub(crate) fn work<R: Threads + Wait + Sync, G: Gate + Sync>(
     ensures script { IfOk result (λ done. done.script ≡ link.script) }
     ensures kept { IfOk result (λ done. IsKept link.script done.log.history) }
 {
-    let (turn, seat) = Turn::make(alloc, link, WORKERS)?;
+    let boxed = Box::new(alloc, link)?;
+    let (turn, seat) = Turn::make(alloc, boxed, WORKERS)?;
     let seat = run_workers(rt, &turn, seat, gate);
-    let mut link = turn.close(seat);
+    let mut link = Box::into_inner(turn.close(seat));
     link.holds();
     link.drain();
     Ok(link)
