@@ -1,9 +1,10 @@
 #!/usr/bin/env python3
-"""Times the reading of a script of 16 MiB beside a plain hex round trip of the same bytes.
+"""Times the reading of a script of 16 MiB beside a plain hex round trip of the same bytes, or beside another build of the program.
 
 Needs the proved build (./usbnet --build) and coreutils' basenc. The script's last line is refused, so that `usbnet serial` reads all
 of it, keeps every frame, and then runs nothing. Prints the best of five times of the program and of a round trip of the script's bytes
-through hexadecimal digits (bytes to digits and back to bytes), and the peak memory of both.
+through hexadecimal digits (bytes to digits and back to bytes), and the peak memory of both. With the path of another build as its
+argument it times the two builds by turns, as serial.py does.
 """
 import os
 import sys
@@ -24,6 +25,9 @@ def main():
         serial.write(script, "class ecm\n", f"out 0 {frame}\n", FRAMES)
         with open(script, "a") as out:
             out.write("at out 0 resume\n")
+        if len(sys.argv) > 1:
+            other = os.path.join(room, "other")
+            return print(serial.compare(["serial"], (sys.argv[1], serial.BINARY), script, (other, told), 5))
         spent, peak = serial.best([serial.BINARY, "serial"], script, told, 5)
         with open(told) as answer:
             if answer.read() != f"bad script {FRAMES + 2} control\n":
