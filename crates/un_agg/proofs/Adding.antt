@@ -3,6 +3,8 @@ use Rattle.std.proofs.Common.{◌≡◌, ℕ, zero, suc, ◌+◌, ◌-◌, ◌<�
 use Rattle.std.proofs.Math.Seq.{take-append_seam, drop-append_seam}
 use Rattle.std.proofs.lemmas.Bool.{false≢true, ltb-true}
 use Rattle.std.proofs.lemmas.List.{take_all}
+use Rattle.un_facts.specs.Lists.{is_empty}
+use Rattle.un_frame.proofs.FrameLemmas.{map_length_more}
 use Rattle.un_frame.specs.declared.params.Class.{Class}
 use Rattle.un_frame.specs.declared.params.Class.TheVariants.{Ecm, Eem, Ncm16, Ncm32}
 use Rattle.un_frame.specs.declared.params.Lane.{Lane}
@@ -17,7 +19,7 @@ use Rattle.un_endpoint.specs.declared.outcome.Built.{Built}
 use Rattle.un_endpoint.specs.declared.outcome.Built.TheVariants as built
 use Rattle.un_agg.specs.Held.{Claim, Held, claim_of}
 use Rattle.un_agg.specs.Block.{IsTransfer}
-use Rattle.un_agg.specs.Building.{Adds, AddsKept, AddsMade, ClosesAtLimit, Settles, StaysOpen, is_empty, keeps_frame, with_frame}
+use Rattle.un_agg.specs.Building.{Adds, AddsKept, AddsMade, ClosesAtLimit, Settles, StaysOpen, keeps_frame, with_frame}
 
 -- a frame that fits an empty transfer is no longer than the capacity
 fits_within : (class : Class) (p : Params) (size : ℕ) → IsTrue (fits_as class p [] size) → size ≤ capacity_as class p
@@ -31,15 +33,11 @@ pub fits_capacity : (p : Params) (size : ℕ) → IsTrue (frame_fits p [] size) 
 fits_capacity p size t = fits_within p.class p size t
 
 -- whether frames fit one block together is whether the last fits the open block of those before
-sizes_more : (frames : List (List ℕ)) (frame : List ℕ) → map length (frames ++ frame ∷ []) ≡ map length frames ++ length frame ∷ []
-sizes_more [] frame = refl
-sizes_more (x ∷ xs) frame = ap (λ (ns : List ℕ). length x ∷ ns) (sizes_more xs frame)
-
 fits_as_sizes : (class : Class) (p : Params) (frames : List (List ℕ)) (frame : List ℕ) → builds_blocks class ≡ true → sizes_fit_as class p (map length (frames ++ frame ∷ [])) ≡ fits_as class p (map length frames) (length frame)
 fits_as_sizes Ecm p frames frame e = absurd (false≢true e)
 fits_as_sizes Eem p frames frame e = absurd (false≢true e)
-fits_as_sizes Ncm16 p frames frame e = ap (λ (ns : List ℕ). sizes_fit_as Ncm16 p ns) (sizes_more frames frame)
-fits_as_sizes Ncm32 p frames frame e = ap (λ (ns : List ℕ). sizes_fit_as Ncm32 p ns) (sizes_more frames frame)
+fits_as_sizes Ncm16 p frames frame e = ap (λ (ns : List ℕ). sizes_fit_as Ncm16 p ns) (map_length_more frames frame)
+fits_as_sizes Ncm32 p frames frame e = ap (λ (ns : List ℕ). sizes_fit_as Ncm32 p ns) (map_length_more frames frame)
 
 pub fits_together : (lane : Lane) (p : Params) (frames : List (List ℕ)) (frame : List ℕ) → packs p.class lane ≡ true → frames_fit p (frames ++ frame ∷ []) ≡ frame_fits p (map length frames) (length frame)
 fits_together lane p frames frame e = fits_as_sizes p.class p frames frame e

@@ -1,6 +1,7 @@
 -- An open block begins, grows and is closed.
 use Rattle.std.proofs.Common.{◌≡◌, ℕ, suc, ◌+◌, ◌<◌, ◌≤◌, true, List, [], ◌∷◌, ◌++◌, length, map, Option, Some, IsTrue, refl, sym, ap, ◌∙◌, subst, arith, append_assoc, append-nil, length-append}
 use Rattle.std.specs.List.{AllByRecursion}
+use Rattle.un_facts.proofs.Lists.{all_more}
 use Rattle.un_frame.specs.declared.params.Class.{Class}
 use Rattle.un_frame.specs.declared.params.Params.{Params}
 use Rattle.un_frame.specs.OpenFrames.{open_frames}
@@ -8,9 +9,8 @@ use Rattle.un_frame.specs.Params.{AreInRange, Agree}
 use Rattle.un_frame.specs.Wire.{Coding, IsOpen, FitInTurn, fits_as, frame_fits, capacity_of, form, open_form}
 use Rattle.un_frame.proofs.PartLemmas.{open_frames_found}
 use Rattle.un_frame.proofs.FrameLemmas.{open_grows}
-use Rattle.un_frame.proofs.WireLemmas.{form_is_read}
+use Rattle.un_frame.proofs.WireLemmas.{form_is_read, fit_last}
 use Rattle.un_req.specs.Request.{Buffer}
-use Rattle.un_req.proofs.Homes.{all_more}
 use Rattle.un_wire.specs.Codings.{coding_of}
 use Rattle.un_wire.specs.declared.codec.Codec.{Codec}
 use Rattle.un_agg.specs.Held.{Claim, claim_of}
@@ -27,10 +27,6 @@ length_sizes (frame ∷ frames) = ap (λ n. suc n) (length_sizes frames)
 -- as many sizes as frames
 pub sizes_count : (p : Params) (sizes bytes : List ℕ) (frames : List (List ℕ)) → IsOpen p sizes bytes frames → length sizes ≡ length frames
 sizes_count p sizes bytes frames o = sym (ap (λ (ns : List ℕ). length ns) o.lengths) ∙ length_sizes frames
-
-fit_more : (class : Class) (p : Params) (before sizes : List ℕ) (size : ℕ) → FitInTurn class p before sizes → IsTrue (fits_as class p (before ++ sizes) size) → FitInTurn class p before (sizes ++ size ∷ [])
-fit_more class p before [] size f t = (subst (λ (ns : List ℕ). IsTrue (fits_as class p ns size)) (append-nil before) t, tt)
-fit_more class p before (x ∷ xs) size f t = (f.0, fit_more class p (before ++ x ∷ []) xs size f.1 (subst (λ (ns : List ℕ). IsTrue (fits_as class p ns size)) (sym (append_assoc before (x ∷ []) xs)) t))
 
 -- a block with these frames
 pub record Grown (p : Params) (claim : Claim) (coding : Coding) (r : Buffer) (frames : List (List ℕ)) : Type 0 where
@@ -93,7 +89,7 @@ appended old new before after frame b k step least fits =
     subst (λ (c : Coding). Grown old.params (claim_of before) c after (frames ++ frame ∷ [])) (sym k)
     (subst (λ (r : Buffer). Grown old.params (claim_of before) of r (frames ++ frame ∷ [])) (sym is)
     (grown of to (frames ++ frame ∷ []) b.is_open more (omega (arith, long)) (all_more (λ (f : List ℕ). 14 ≤ length f) frames frame b.least least)
-    (fit_more old.params.class old.params [] old.sizes (length frame) b.fit fits) b.room))
+    (fit_last old.params.class old.params [] old.sizes (length frame) b.fit fits) b.room))
 
 -- what callers see of such a block
 abbrev block : Params → List (List ℕ) → Claim → Block

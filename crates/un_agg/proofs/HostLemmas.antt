@@ -57,10 +57,6 @@ pub nothing_packed : (frames : List (List ℕ)) (packed : Bool) → (0 < length 
 nothing_packed [] packed f e = refl
 nothing_packed (frame ∷ frames) packed f e = absurd (false≢true (sym e ∙ f (omega arith)))
 
-pub no_items : (items : List ℕ) → length items ≡ 0 → items ≡ []
-no_items [] e = refl
-no_items (byte ∷ bytes) e = absurd (omega (arith, e))
-
 -- after a transfer that left nothing
 pub left_alone : (a : Inside) (number : ℕ) → a.block.claim ≡ None → IsIdle a → (held_in a).frames ≡ []
     → record (held_in a) { from = number } ≡ record (held_in a) { from = number; frames = []; claim = None; pending = 0 }

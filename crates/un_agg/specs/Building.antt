@@ -1,5 +1,6 @@
 -- What the steps inside a builder do, apart from where its requests come from.
 use Rattle.std.specs.Prelude.{◌≡◌, ℕ, ◌-◌, Bool, true, false, ◌&&◌, ◌||◌, List, [], ◌∷◌, ◌++◌, length, map, take, drop, Option, None, Some}
+use Rattle.un_facts.specs.Lists.{is_empty}
 use Rattle.un_frame.specs.declared.params.Lane.{Lane}
 use Rattle.un_frame.specs.declared.params.Lane.TheVariants.{Outward, Inward}
 use Rattle.un_frame.specs.Cut.{closed_span, ends_at_limit}
@@ -11,10 +12,6 @@ use Rattle.un_endpoint.specs.declared.outcome.Built.{Built}
 use Rattle.un_endpoint.specs.declared.outcome.Built.TheVariants as built
 use Rattle.un_agg.specs.Held.{Claim, Held, claim_of}
 use Rattle.un_agg.specs.Block.{IsTransfer}
-
-abbrev pub is_empty : List (List ℕ) → Bool
-is_empty [] = true
-is_empty (frame ∷ frames) = false
 
 -- the frames with a new one, and the span that it closes
 abbrev pub with_frame : Held → List ℕ → List (List ℕ)

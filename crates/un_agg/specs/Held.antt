@@ -1,9 +1,9 @@
 -- What a builder holds, as plain data, and the transmitting end that it is part of.
 use Rattle.std.specs.Prelude.{◌≡◌, ℕ, ◌<◌, ◌&&◌, false, not, List, [], Option, None, Some}
+use Rattle.un_facts.specs.Numbers.{one_if}
 use Rattle.un_frame.specs.declared.params.Params.{Params}
 use Rattle.un_frame.specs.declared.params.Lane.{Lane}
 use Rattle.un_req.specs.Request.{Buffer, Store, has}
-use Rattle.un_endpoint.specs.Bus.{one_if}
 use Rattle.un_endpoint.specs.Ends.{Builder, Transmitter, is_block, is_built}
 
 -- a request that a builder keeps: its number in its pool, and its capacity

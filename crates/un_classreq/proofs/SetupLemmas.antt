@@ -1,19 +1,13 @@
 -- A set-up packet and its bytes are one another's.
 use Rattle.std.proofs.Common.{◌≡◌, ℕ, ◌<◌, List, [], ◌∷◌, length, refl, ap, ◌∙◌, arith}
 use Rattle.std.specs.Int.{bytes_low_first}
+use Rattle.un_desc.proofs.Built.{again, again_same}
 use Rattle.byteorder.specs.Endian.{little_from}
 use Rattle.byteorder.specs.Numbers.{little_number-reads_back}
 use Rattle.un_frame.specs.Bytes.{AreBytes, number_at, number_bytes}
 use Rattle.un_frame.proofs.EemLemmas.{number_bytes-number_at}
 use Rattle.un_classreq.specs.declared.setup.Setup.{Setup}
 use Rattle.un_classreq.specs.Setup.{setup_bytes, setup_of}
-
--- the number in the two bytes of a number
-abbrev again : ℕ → ℕ
-again x = little_from 0 2 (bytes_low_first 0 2 x)
-
-again_same : (x : ℕ) → x < 65536 → again x ≡ x
-again_same x h = little_number-reads_back 2 x [] h
 
 abbrev with_numbers : Setup → ℕ → ℕ → ℕ → Setup
 with_numbers s value index size = record { request_type = s.request_type; request = s.request; value = value; index = index; length = size }

@@ -1,6 +1,7 @@
 -- What the device answers to a set-up packet: the first reason to stall, in the order of the tests, or the effect and
 -- the reply of the request's row. The order is this project's own.
 use Rattle.std.specs.Prelude.{◌≡◌, ℕ, Bool, true, false, ◌&&◌, ◌||◌, List, length, take, find, nat_le, ◌==◌, if◌then◌else◌, Option, Some, None, Result, Ok, Err}
+use Rattle.un_facts.specs.Results.{◌>>=◌, needs, given}
 use Rattle.un_frame.specs.declared.params.Params.{Params}
 use Rattle.un_frame.specs.declared.params.Class.{Class}
 use Rattle.un_frame.specs.declared.params.Class.TheVariants.{Ecm, Eem}
@@ -35,19 +36,6 @@ first_state p = record {
 
 abbrev pub first_gadget : Params → Gadget
 first_gadget p = record { params = p; state = first_state p }
-
--- one test after another; the first that fails is the reason
-infixl 10 ◌>>=◌
-abbrev pub ◌>>=◌ : {A B : Type 0} → Result A Why → (A → Result B Why) → Result B Why
-(Ok x) >>= f = f x
-(Err why) >>= f = Err why
-
-abbrev pub needs : Why → Bool → Result (Unit {0}) Why
-needs why holds = if holds then Ok tt else Err why
-
-abbrev pub given : {X : Type 0} → Why → Option X → Result X Why
-given why (Some x) = Ok x
-given why None = Err why
 
 -- which classes have a request
 abbrev pub serves : Classes → Class → Bool

@@ -2,6 +2,7 @@
 -- does and what it sends. Names and codes are the standards', the rules on index, length, setting and value are this
 -- project's own.
 use Rattle.std.specs.Prelude.{ℕ, Bool, ◌&&◌, List, [], ◌∷◌, ◌++◌, nat_le, ◌==◌, if◌then◌else◌, Option, Some, None}
+use Rattle.un_facts.specs.Numbers.{is_between}
 use Rattle.un_frame.specs.Bytes.{number_at, number_bytes}
 use Rattle.un_frame.specs.declared.params.Params.{Params}
 use Rattle.un_frame.specs.declared.params.Class.{Class}
@@ -43,9 +44,6 @@ last_format class = 0
 
 abbrev pub if_allowed : Bool → State → Option State
 if_allowed holds next = if holds then Some next else None
-
-abbrev pub is_between : ℕ → ℕ → ℕ → Bool
-is_between low high n = nat_le low n && nat_le n high
 
 -- A row: how the request is told and where it may come; what the state is after it, where its value and its payload
 -- are allowed; and what it sends, before it is cut.

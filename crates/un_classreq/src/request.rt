@@ -1,8 +1,9 @@
 //! The requests that the device knows.
 
 ghost use Rattle.std.specs.Prelude.{◌≡◌, IsTrue, IfOk};
+ghost use Rattle.un_facts.specs.Numbers.{is_between};
 ghost use Rattle.un_classreq.specs.Control.{has_length, is_asked, named};
-ghost use Rattle.un_classreq.specs.Requests.{is_between, ntb_parameters, row};
+ghost use Rattle.un_classreq.specs.Requests.{ntb_parameters, row};
 ghost use Rattle.un_frame.specs.Params.{AreInRange};
 
 use crate::bytes::{push_long, push_short};

@@ -3,10 +3,11 @@ use Rattle.std.proofs.Common.{◌≡◌, ℕ, ◌%◌, ◌<◌, ◌≤◌, [], �
 use Rattle.std.proofs.lemmas.Bool.Decides.{nat_tests}
 use Rattle.std.proofs.Math.Nat.{mod-eq_of_lt}
 use Rattle.std.specs.Int.{bytes_low_first}
+use Rattle.un_facts.specs.Lists.{is_one_of}
 use Rattle.byteorder.specs.Endian.{little_from}
 use Rattle.byteorder.specs.Numbers.{little_number-reads_back}
 use Rattle.un_frame.specs.Bytes.{number_at, number_bytes}
-use Rattle.un_frame.specs.Params.{AreInRange, is_one_of}
+use Rattle.un_frame.specs.Params.{AreInRange}
 use Rattle.un_frame.specs.declared.params.Params.{Params}
 use Rattle.un_frame.specs.declared.params.Class.{Class}
 use Rattle.un_frame.specs.declared.params.Class.TheVariants.{Ecm, Eem, Ncm16, Ncm32}
@@ -23,10 +24,10 @@ pub packet_small : (x : ℕ) → IsTrue (is_one_of x (8 ∷ 16 ∷ 32 ∷ 64 ∷
 packet_small x h = grind (arith, nat_tests)
 
 -- the number in the two bytes of a number
-abbrev again : ℕ → ℕ
+abbrev pub again : ℕ → ℕ
 again x = little_from 0 2 (bytes_low_first 0 2 x)
 
-again_same : (x : ℕ) → x < 65536 → again x ≡ x
+pub again_same : (x : ℕ) → x < 65536 → again x ≡ x
 again_same x h = little_number-reads_back 2 x [] h
 
 abbrev described_as : FunctionKind → ℕ → ℕ → ℕ → ℕ → ℕ → Result Function DescFault

@@ -2,6 +2,7 @@
 use Rattle.std.proofs.Common.{◌≡◌, ℕ, zero, suc, ◌+◌, ◌-◌, ◌^◌, ◌<◌, ◌≤◌, true, false, nat_lt, nat_le, ◌==◌, List, [], ◌∷◌, ◌++◌, length, take, drop, map, flat_map, None, refl, sym, ap, ◌∙◌, subst, arith, append_assoc, length-append, take_at, drop_at}
 use Rattle.std.proofs.lemmas.Bool.Decides.{nat_tests}
 use Rattle.std.specs.List.{AllByRecursion}
+use Rattle.un_frame.proofs.PartLemmas.{data_end, command_end, empty_end}
 use Rattle.un_frame.specs.declared.params.Class.TheVariants.{Eem}
 use Rattle.un_frame.specs.Bytes.{AreBytes, number_at, number_bytes, slice_at}
 use Rattle.un_frame.specs.Eem.{Packet, Data, Command, Empty, SENTINEL, IsPacket, command_count, echo_length, eem_fault, frame_places, packet_bytes, packet_size}
@@ -107,15 +108,6 @@ transfer_read bytes small none =
     let same : packets_in (length bytes - 0) bytes 0 ≡ r.0 =
     ap (λ (xs : List ℕ). packets_in (length xs - 0) xs 0) spelled ∙ walk_packets (length (flat_map packet_bytes r.0) - 0) r.0 [] r.1 (omega arith) in
     record { sound = subst (AllByRecursion IsPacket) (sym same) r.1; spelled = spelled ∙ ap (flat_map packet_bytes) (sym same) }
-
-data_end : (front frame : List ℕ) → length (front ++ packet_bytes (Data frame)) ≡ length front + length frame + 6
-data_end front frame = simp (length-append, length-number_bytes) (omega arith)
-
-command_end : (front : List ℕ) (h : ℕ) (echo : List ℕ) → length (front ++ packet_bytes (Command h echo)) ≡ length front + length echo + 2
-command_end front h echo = simp (length-append, length-number_bytes) (omega arith)
-
-empty_end : (front : List ℕ) → length (front ++ packet_bytes Empty) ≡ length front + 2
-empty_end front = simp (length-append, length-number_bytes) (omega arith)
 
 -- the slices of the bytes behind a packet, from those of the bytes with it at the front's end
 slices_on : (packet front rest : List ℕ) (end : ℕ) (ps : List Packet) → length (front ++ packet) ≡ end

@@ -1,6 +1,7 @@
 -- Walking over the packets of a transfer, one at a time.
-use Rattle.std.proofs.Common.{◌≡◌, ℕ, zero, suc, ◌+◌, ◌-◌, ◌<◌, ◌≤◌, true, false, nat_le, List, [], ◌∷◌, length, Option, Some, None, refl, sym, ap, ◌∙◌, arith}
+use Rattle.std.proofs.Common.{◌≡◌, ℕ, zero, suc, ◌+◌, ◌-◌, ◌<◌, ◌≤◌, true, false, nat_le, List, [], ◌∷◌, length, Some, None, refl, sym, ap, ◌∙◌, arith}
 use Rattle.std.proofs.lemmas.Bool.Decides.{nat_tests}
+use Rattle.un_frame.proofs.NtbLemmas.{none_or_else}
 use Rattle.un_frame.specs.declared.fault.Fault.{Fault}
 use Rattle.un_frame.specs.Bytes.{number_at}
 use Rattle.un_frame.specs.Fault.{or_else}
@@ -79,12 +80,8 @@ packets_on bytes at next h same =
     ∙ ap (λ rest. packet_at bytes at ∷ rest) (same_packets left (length bytes - n) bytes n (omega arith) (omega arith) ∙ ap (λ m. packets_in (length bytes - m) bytes m) (sym same))
 
 -- where the packets from a place on have no fault, the first has none, nor have those behind it
-none_first : (first rest : Option Fault) → or_else first rest ≡ None → (first ≡ None) × (rest ≡ None)
-none_first None rest h = (refl, h)
-none_first (Some f) rest h = absurd (cc)
-
 pub sound_first : (bytes : List ℕ) (at : ℕ) → at < length bytes → IsSound bytes at → packet_fault bytes at (number_at 2 bytes at) ≡ None
-sound_first bytes at h s = (none_first (packet_fault bytes at (number_at 2 bytes at)) (fault_from bytes (at + packet_size (number_at 2 bytes at))) (sym (fault_by bytes at h) ∙ s.none)).0
+sound_first bytes at h s = (none_or_else (packet_fault bytes at (number_at 2 bytes at)) (fault_from bytes (at + packet_size (number_at 2 bytes at))) (sym (fault_by bytes at h) ∙ s.none)).0
 
 pub sound_rest : (bytes : List ℕ) (at : ℕ) → at < length bytes → IsSound bytes at → fault_from bytes (at + packet_size (number_at 2 bytes at)) ≡ None
-sound_rest bytes at h s = (none_first (packet_fault bytes at (number_at 2 bytes at)) (fault_from bytes (at + packet_size (number_at 2 bytes at))) (sym (fault_by bytes at h) ∙ s.none)).1
+sound_rest bytes at h s = (none_or_else (packet_fault bytes at (number_at 2 bytes at)) (fault_from bytes (at + packet_size (number_at 2 bytes at))) (sym (fault_by bytes at h) ∙ s.none)).1

@@ -1,5 +1,6 @@
 -- What an endpoint holds, as plain data.
-use Rattle.std.specs.Prelude.{ℕ, ◌+◌, ◌-◌, Bool, true, false, ◌&&◌, not, is_some, nat_lt, nat_le, List, [], ◌∷◌, length, Option, Some, None}
+use Rattle.std.specs.Prelude.{ℕ, ◌+◌, ◌-◌, Bool, false, ◌&&◌, not, is_some, nat_lt, List, [], ◌∷◌, length, Option, Some, None}
+use Rattle.un_facts.specs.Numbers.{one_if, within}
 use Rattle.un_req.specs.Request.{Buffer}
 use Rattle.un_endpoint.specs.declared.record.FlightRecord.{FlightRecord}
 
@@ -51,22 +52,14 @@ no_bus tx_room rx_room largest = record {
   halted = false;
 }
 
--- whether a number stands in the span from a (inclusive) to b (exclusive)
-abbrev pub is_between : ℕ → ℕ → ℕ → Bool
-is_between a b number = nat_le a number && nat_lt number b
-
-abbrev pub one_if : Bool → ℕ
-one_if true = 1
-one_if false = 0
-
 -- how often a number stands in the spans of queued transfers, and in that of the flight
 unfoldable pub queued_count : ℕ → List Buffer → ℕ
 queued_count number [] = 0
-queued_count number (r ∷ rs) = one_if (is_between r.from r.to number) + queued_count number rs
+queued_count number (r ∷ rs) = one_if (within r.from r.to number) + queued_count number rs
 
 abbrev pub flight_count : ℕ → Option FlightRecord → ℕ
 flight_count number None = 0
-flight_count number (Some flight) = one_if (is_between flight.from flight.to number)
+flight_count number (Some flight) = one_if (within flight.from flight.to number)
 
 -- the serial of the flight
 abbrev pub flying_serial : Option FlightRecord → Option ℕ

@@ -1,5 +1,6 @@
 -- What the calls of the ends do, by what they answer. The cases of one call leave nothing out and exclude each other.
 use Rattle.std.specs.Prelude.{◌≡◌, ℕ, ◌+◌, ◌-◌, ◌<◌, ◌≤◌, Bool, true, false, not, ◌&&◌, ◌||◌, nat_lt, nat_le, List, [], ◌∷◌, ◌++◌, length, take, drop, Option, Some, None, is_some, option_to_list, if◌then◌else◌, ◌⊎◌}
+use Rattle.un_facts.specs.Lists.{is_empty}
 use Rattle.un_frame.specs.declared.params.Lane.{Lane}
 use Rattle.un_frame.specs.declared.params.Lane.TheVariants.{Outward, Inward}
 use Rattle.un_frame.specs.Cut.{closed_span}
@@ -11,10 +12,6 @@ use Rattle.un_endpoint.specs.declared.outcome.Built.{Built}
 use Rattle.un_endpoint.specs.declared.outcome.Built.TheVariants as built
 use Rattle.un_endpoint.specs.declared.outcome.Ticked.{Ticked}
 use Rattle.un_endpoint.specs.declared.outcome.Ticked.TheVariants as ticked
-
-abbrev pub is_empty : {X : Type 0} → List X → Bool
-is_empty [] = true
-is_empty (x ∷ xs) = false
 
 -- BUILDING
 

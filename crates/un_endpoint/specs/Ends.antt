@@ -1,11 +1,13 @@
 -- What the two ends of a lane hold, as plain data.
 use Rattle.std.specs.Prelude.{◌≡◌, ℕ, ◌+◌, ◌-◌, ◌<◌, Bool, true, ◌&&◌, not, List, [], ◌∷◌, length, map, is_some, Option, None, Some, option_to_list}
+use Rattle.un_facts.specs.Lists.{copies}
+use Rattle.un_facts.specs.Numbers.{one_if, within}
 use Rattle.un_frame.specs.declared.params.Params.{Params}
 use Rattle.un_frame.specs.declared.params.Lane.{Lane}
 use Rattle.un_frame.specs.declared.params.Lane.TheVariants.{Outward, Inward}
 use Rattle.un_frame.specs.Parts.{ReadsAs}
-use Rattle.un_req.specs.Request.{Buffer, copies, number_of}
-use Rattle.un_endpoint.specs.Bus.{is_between, one_if, queued_count}
+use Rattle.un_req.specs.Request.{Buffer, number_of}
+use Rattle.un_endpoint.specs.Bus.{queued_count}
 
 -- What is built: the number of the first datagram, the frames of these, the number of the request that the open block
 -- claims, and the pending count. Frames without a claim are, at a host, the remainder.
@@ -86,7 +88,7 @@ is_block Outward claim = is_some claim
 is_block Inward claim = true
 
 abbrev pub is_built : Builder → ℕ → Bool
-is_built b number = is_between b.from (b.from + length b.frames) number
+is_built b number = within b.from (b.from + length b.frames) number
 
 -- how often the number of a datagram stands in the open block, in the remainder, and in the deferred transfers
 abbrev pub built_count : Transmitter → ℕ → ℕ
@@ -104,4 +106,4 @@ arrived_count r number = queued_count number r.arrived
 
 abbrev pub current_count : Option Opened → ℕ → ℕ
 current_count None number = 0
-current_count (Some o) number = one_if (is_between o.next o.request.to number)
+current_count (Some o) number = one_if (within o.next o.request.to number)

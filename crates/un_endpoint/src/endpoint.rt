@@ -1,7 +1,8 @@
 //! An endpoint: the queue, the posted requests and the flight between the two ends of a lane.
 
 ghost use Rattle.std.specs.Prelude.{◌≡◌, ◌^◌, ◌-◌, ◌<◌, ◌++◌, ◌∷◌, ◌≤◌, [], Some, IfOk, IfErr, IfSome, IfNone, false, length, min};
-ghost use Rattle.un_endpoint.specs.Bus.{flight_count, flying_serial, is_between, is_head_marked, no_bus, queued_count, record_of, unmarked_count};
+ghost use Rattle.un_facts.specs.Numbers.{within};
+ghost use Rattle.un_endpoint.specs.Bus.{flight_count, flying_serial, is_head_marked, no_bus, queued_count, record_of, unmarked_count};
 ghost use Rattle.un_endpoint.specs.Outcomes.{Lands, Marks, Takes};
 
 use crate::flight::{Carried, Flight};
@@ -255,7 +256,7 @@ impl Endpoint {
 
 /// Whether a transfer has a number in its span.
 fn has(request: &Request, number: u64) -> bool
-    ensures { result ≡ is_between request.now.from request.now.to number }
+    ensures { result ≡ within request.now.from request.now.to number }
 {
     request.from() <= number && number < request.to()
 }

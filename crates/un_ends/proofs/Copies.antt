@@ -3,11 +3,11 @@ use Rattle.std.proofs.Common.{◌≡◌, ℕ, ◌+◌, ◌<◌, ◌≤◌, Bool,
 use Rattle.std.proofs.lemmas.Bool.{eq-eqb, eqb-true, ltb-true, ltb-false, false≢true}
 use Rattle.std.proofs.lemmas.Map.Steps.{length-le_from_distinct_below}
 use Rattle.std.specs.List.{AllByRecursion, IsDistinct}
-use Rattle.un_req.specs.Request.{Buffer, copies, has, number_of, one_if}
-
-pub copies_append : (n : ℕ) (xs ys : List ℕ) → copies n (xs ++ ys) ≡ copies n xs + copies n ys
-copies_append n [] ys = omega arith
-copies_append n (x ∷ xs) ys = let r : copies n (xs ++ ys) ≡ copies n xs + copies n ys = copies_append n xs ys in omega arith
+use Rattle.un_facts.proofs.Copies.{copies_append}
+use Rattle.un_facts.proofs.Numbers.{one_here}
+use Rattle.un_facts.specs.Lists.{copies}
+use Rattle.un_facts.specs.Numbers.{one_if}
+use Rattle.un_req.specs.Request.{Buffer, has, number_of}
 
 pub map_append : (xs ys : List Buffer) → map number_of (xs ++ ys) ≡ map number_of xs ++ map number_of ys
 map_append [] ys = refl
@@ -19,10 +19,7 @@ copies_last n xs y =
     let sum = copies_append n (map number_of xs) (y.number ∷ []) in
     omega (arith, split, sum)
 
--- a number that is another's, and one that isn't
-pub one_here : (n : ℕ) → one_if (eqb n n) ≡ 1
-one_here n = rw (eq-eqb n n refl) refl
-
+-- where the one number is the other, the count has room for it
 pub one_cases : (n k limit total : ℕ) → (n ≡ k → total + 1 ≤ limit) → total ≤ limit → total + one_if (eqb n k) ≤ limit
 one_cases n k limit total here below = at (eqb n k) refl
   where

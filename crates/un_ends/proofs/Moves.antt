@@ -1,10 +1,15 @@
 -- What always holds of a transmitting end holds after each of its calls.
 use Rattle.std.proofs.Common.{◌≡◌, ℕ, suc, ◌+◌, ◌-◌, ◌<◌, ◌≤◌, false, eqb, List, [], ◌∷◌, ◌++◌, length, map, Option, None, Some, option_to_list, refl, sym, ap, ◌∙◌, subst, arith, length-append}
 use Rattle.std.specs.List.{AllByRecursion}
+use Rattle.un_req.proofs.Homes.{numbers_length}
+use Rattle.un_facts.proofs.Lists.{all_more}
+use Rattle.un_facts.proofs.Copies.{copies_append}
+use Rattle.un_facts.proofs.Numbers.{one_here}
+use Rattle.un_facts.specs.Lists.{copies}
+use Rattle.un_facts.specs.Numbers.{one_if}
 use Rattle.un_frame.specs.declared.params.Lane.{Lane}
 use Rattle.un_frame.specs.declared.params.Lane.TheVariants.{Outward, Inward}
-use Rattle.un_req.specs.Request.{Buffer, copies, has, number_of, one_if}
-use Rattle.un_req.proofs.Homes.{all_more}
+use Rattle.un_req.specs.Request.{Buffer, has, number_of}
 use Rattle.un_endpoint.specs.Ends.{Builder, IsAwayTx, Transmitter, tx_copies}
 use Rattle.un_endpoint.specs.EndOutcomes.{DropsBuild, Makes, Offers, Ticks, Uses}
 use Rattle.un_endpoint.specs.declared.outcome.Built.{Built}
@@ -12,7 +17,7 @@ use Rattle.un_endpoint.specs.declared.outcome.Built.TheVariants as built
 use Rattle.un_endpoint.specs.declared.outcome.Ticked.{Ticked}
 use Rattle.un_endpoint.specs.declared.outcome.Ticked.TheVariants as ticked
 use Rattle.un_ends.specs.Sound.{IsSoundTx}
-use Rattle.un_ends.proofs.Copies.{copies_append, copies_last, few, none_has, one_cases, one_here}
+use Rattle.un_ends.proofs.Copies.{copies_last, few, none_has, one_cases}
 
 -- how often a number stands at home, and with the builder
 abbrev built_copies : Transmitter → ℕ → ℕ
@@ -82,10 +87,6 @@ module _ (old new : Transmitter) (s : IsSoundTx old) where
   drops_sound (Some span) d = subst IsSoundTx (sym d.rest) (rebuilt old (old.home ++ option_to_list old.builder.claim) _ (λ n. let all = copies_append n old.home (option_to_list old.builder.claim) in omega (arith, all)) s)
 
 -- THE LISTS
-
-numbers_length : (rs : List Buffer) → length (map number_of rs) ≡ length rs
-numbers_length [] = refl
-numbers_length (r ∷ rs) = ap (λ n. suc n) (numbers_length rs)
 
 -- a request that is in none of the places goes to the end of a list
 module _ (t : Transmitter) (request : Buffer) (away : IsAwayTx t request) (s : IsSoundTx t) where

@@ -2,32 +2,22 @@
 use Rattle.std.proofs.Common.{◌≡◌, ℕ, zero, suc, ◌+◌, ◌<◌, ◌≤◌, Bool, true, false, eqb, nat_lt, List, [], ◌∷◌, map, IsTrue, refl, ap, subst, arith}
 use Rattle.std.proofs.lemmas.Bool.{ltb-true, ltb-false}
 use Rattle.std.specs.List.{AllByRecursion}
+use Rattle.un_req.proofs.Homes.{upto_none, upto_once}
+use Rattle.un_frame.specs.Lanes.{tx_size}
+use Rattle.un_facts.proofs.Copies.{copies_append}
+use Rattle.un_facts.proofs.Numbers.{one_here}
+use Rattle.un_facts.specs.Lists.{copies}
+use Rattle.un_facts.specs.Numbers.{one_if}
 use Rattle.un_frame.specs.declared.params.Lane.{Lane}
 use Rattle.un_frame.specs.declared.params.Params.{Params}
 use Rattle.un_frame.specs.Params.{AreInRange, Agree}
 use Rattle.un_frame.specs.Wire.{frame_fits}
 use Rattle.un_frame.proofs.FrameLemmas.{segment_fits}
-use Rattle.un_req.specs.Request.{Buffer, copies, number_of, one_if, upto}
+use Rattle.un_req.specs.Request.{Buffer, number_of, upto}
 use Rattle.un_endpoint.specs.Ends.{Transmitter, tx_copies}
 use Rattle.un_ends.specs.Rows.{IsFirstOut}
-use Rattle.un_ends.specs.Sound.{IsSoundTx, fresh_tx, tx_size}
-use Rattle.un_ends.proofs.Copies.{copies_append, none_has, one_cases, one_here}
-
--- the numbers below one stand once in their list, and no others
-pub upto_none : (size n : ℕ) → size ≤ n → copies n (upto size) ≤ 0
-upto_none zero n big = omega arith
-upto_none (suc size) n big =
-    let before = upto_none size n (omega arith) in
-    let split = copies_append n (upto size) (size ∷ []) in
-    let all = one_cases n size 0 (copies n (upto size)) (λ e. absurd (omega (arith, e, big))) before in
-    omega (arith, split, all)
-
-pub upto_once : (size n : ℕ) → copies n (upto size) ≤ 1
-upto_once zero n = omega arith
-upto_once (suc size) n =
-    let split = copies_append n (upto size) (size ∷ []) in
-    let all = one_cases n size 1 (copies n (upto size)) (λ e. let none = upto_none size n (omega (arith, e)) in omega (arith, none)) (upto_once size n) in
-    omega (arith, split, all)
+use Rattle.un_ends.specs.Sound.{IsSoundTx, fresh_tx}
+use Rattle.un_ends.proofs.Copies.{none_has, one_cases}
 
 pub fresh_sound : (lane : Lane) (params : Params) → AreInRange params → Agree params → IsSoundTx (fresh_tx lane params)
 fresh_sound lane params in_range agree = record {
@@ -35,8 +25,8 @@ fresh_sound lane params in_range agree = record {
   agree = agree;
   capacity_is = refl;
   places = record {
-    once = λ n. let home = upto_once (tx_size lane params) n in omega (arith, home);
-    known = λ n big. let home = upto_none (tx_size lane params) n big in omega (arith, home);
+    once = λ n. let home = upto_once (tx_size params lane) n in omega (arith, home);
+    known = λ n big. let home = upto_none (tx_size params lane) n big in omega (arith, home);
   };
   deferred_sized = tt;
   done_sized = tt;

@@ -1,6 +1,7 @@
 -- What always holds of a transmitting end.
 use Rattle.std.specs.Prelude.{◌≡◌, ℕ, ◌≤◌, []}
 use Rattle.std.specs.List.{AllByRecursion}
+use Rattle.un_frame.specs.Lanes.{tx_size}
 use Rattle.un_frame.specs.declared.params.Params.{Params}
 use Rattle.un_frame.specs.declared.params.Lane.{Lane}
 use Rattle.un_frame.specs.declared.params.Lane.TheVariants.{Outward, Inward}
@@ -9,19 +10,14 @@ use Rattle.un_frame.specs.Wire.{capacity_of}
 use Rattle.un_req.specs.Request.{upto}
 use Rattle.un_endpoint.specs.Ends.{Transmitter, nothing_built, tx_copies}
 
--- how many requests the transmitting end of a lane has
-abbrev pub tx_size : Lane → Params → ℕ
-tx_size Outward params = params.tx_out
-tx_size Inward params = params.tx_in
-
 -- a new end: all of its requests are home, and nothing is built
 abbrev pub fresh_tx : Lane → Params → Transmitter
 fresh_tx lane params = record {
   params = params;
   lane = lane;
-  size = tx_size lane params;
+  size = tx_size params lane;
   capacity = capacity_of params;
-  home = upto (tx_size lane params);
+  home = upto (tx_size params lane);
   builder = nothing_built;
   deferred = [];
   done = [];

@@ -93,7 +93,7 @@ packets-short (x ∷ xs) =
     omega (arith, ih, sum, packet, long)
 
 -- the empty packet at the end is short
-padded-short : (packets : List ℕ) (b : Bool) → length (packets ++ (if b then packet_bytes Empty else [])) ≤ length packets + 2
+pub padded-short : (packets : List ℕ) (b : Bool) → length (packets ++ (if b then packet_bytes Empty else [])) ≤ length packets + 2
 padded-short packets true = simp (length-append, length-number_bytes) (omega arith)
 padded-short packets false = simp length-append (omega arith)
 
@@ -126,7 +126,7 @@ taken_has_length p lane frame h =
 pub open_begins : OpenBegins
 open_begins p = record { lengths = refl; so_far = refl }
 
-map_length_more : (frames : List (List ℕ)) (frame : List ℕ) → map length (frames ++ frame ∷ []) ≡ map length frames ++ length frame ∷ []
+pub map_length_more : (frames : List (List ℕ)) (frame : List ℕ) → map length (frames ++ frame ∷ []) ≡ map length frames ++ length frame ∷ []
 map_length_more [] frame = refl
 map_length_more (x ∷ xs) frame = ap (λ (ns : List ℕ). length x ∷ ns) (map_length_more xs frame)
 

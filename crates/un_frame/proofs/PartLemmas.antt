@@ -52,13 +52,13 @@ fewer left p rest room = let least = least_packet p in let long = length-append 
 data_size : (n : ℕ) → n + 4 < 2 ^ 14 → (n + 4) % 2 ^ 14 - 4 ≡ n
 data_size n low = omega arith
 
-data_end : (front frame : List ℕ) → length (front ++ packet_bytes (Data frame)) ≡ length front + length frame + 6
+pub data_end : (front frame : List ℕ) → length (front ++ packet_bytes (Data frame)) ≡ length front + length frame + 6
 data_end front frame = simp (length-append, length-number_bytes) (omega arith)
 
-command_end : (front : List ℕ) (h : ℕ) (echo : List ℕ) → length (front ++ packet_bytes (Command h echo)) ≡ length front + length echo + 2
+pub command_end : (front : List ℕ) (h : ℕ) (echo : List ℕ) → length (front ++ packet_bytes (Command h echo)) ≡ length front + length echo + 2
 command_end front h echo = simp (length-append, length-number_bytes) (omega arith)
 
-empty_end : (front : List ℕ) → length (front ++ packet_bytes Empty) ≡ length front + 2
+pub empty_end : (front : List ℕ) → length (front ++ packet_bytes Empty) ≡ length front + 2
 empty_end front = simp (length-append, length-number_bytes) (omega arith)
 
 -- the walk over packets finds their frames

@@ -1,7 +1,6 @@
 -- One call of a source in memory.
-use Rattle.std.proofs.Common.{ℕ, zero, suc, ◌+◌, ◌<◌, ◌≤◌, min, List, [], ◌++◌, ◌≡◌, length, take, drop, refl, sym, ap, ◌∙◌, arith, length-drop, ◌-◌, ◌∷◌}
+use Rattle.std.proofs.Common.{ℕ, ◌+◌, ◌<◌, ◌≤◌, min, List, [], ◌++◌, ◌≡◌, length, take, drop, sym, arith, length-drop}
 use Rattle.std.proofs.lemmas.List.{take-append-drop, drop_all, drop-drop}
-use Rattle.std.proofs.lemmas.Grind.{common_steps}
 
 nothing_left : (items : List ℕ) (at : ℕ) → length items ≤ at → drop at items ≡ []
 nothing_left items at h = drop_all at items h

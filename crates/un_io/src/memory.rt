@@ -3,8 +3,9 @@
 ghost use Rattle.std.specs.Prelude.{◌≡◌, ◌<◌, ◌≤◌, ◌-◌, min, length, IfOk, OnErr, Some, [], is_err};
 ghost use Rattle.std.specs.Io.KnownBytes.{ReadConsumes, WriteAppends};
 ghost use Rattle.std.specs.Prelude.{◌||◌, nat_le};
+ghost use Rattle.un_facts.specs.Lists.{is_one_of};
 ghost use Rattle.un_io.specs.Io.{Rose};
-ghost use Rattle.un_io.specs.Memory.{Supply, Store, count_after, is_named};
+ghost use Rattle.un_io.specs.Memory.{Supply, Store, count_after};
 
 use crate::copy::give;
 use crate::traits::{Failed, Sink, Source};
@@ -63,7 +64,7 @@ impl Source for MemSource {
         ensures never_falls { self.old.faults ≤ self.new.faults }
         ensures cause { OnErr result (Rose self.old.faults self.new.faults) }
 
-        ensures fails { is_err result ≡ is_named self.old.calls self.old.failing }
+        ensures fails { is_err result ≡ is_one_of self.old.calls self.old.failing }
         ensures size { IfOk result (λ n. n ≡ min (min self.old.piece (length buf.new)) (length self.old.left)) }
         ensures call { self.new.calls ≡ count_after self.old.calls }
         ensures kept { (self.new.piece ≡ self.old.piece) × (self.new.failing ≡ self.old.failing) }
@@ -146,7 +147,7 @@ impl Sink for MemSink {
         ensures never_falls { self.old.faults ≤ self.new.faults }
         ensures cause { OnErr result (Rose self.old.faults self.new.faults) }
 
-        ensures fails { is_err result ≡ is_named self.old.calls self.old.failing || nat_le self.old.room (length self.old.held) }
+        ensures fails { is_err result ≡ is_one_of self.old.calls self.old.failing || nat_le self.old.room (length self.old.held) }
         ensures size { IfOk result (λ n. n ≡ min (min self.old.piece (length bytes.now)) (self.old.room - length self.old.held)) }
         ensures call { self.new.calls ≡ count_after self.old.calls }
         ensures kept { (self.new.room ≡ self.old.room) × (self.new.piece ≡ self.old.piece) × (self.new.failing ≡ self.old.failing) }

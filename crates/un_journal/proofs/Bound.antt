@@ -1,6 +1,7 @@
 -- How many lines a legal history can have.
 use Rattle.std.proofs.Common.{◌≡◌, ℕ, zero, suc, ◌+◌, ◌-◌, ◌*◌, ◌<◌, ◌≤◌, Bool, true, false, not, ◌&&◌, ◌||◌, ◌==◌, List, [], ◌∷◌, length, Option, Some, None, inl, inr, refl, sym, ap, ◌∙◌, subst, arith, if◌then◌else◌, filter, reverse, slice_get, is_some, nat_lt, min, unwrap_or, length-append}
 use Rattle.std.proofs.lemmas.List.{length-reverse}
+use Rattle.un_facts.proofs.Booleans.{and_false}
 use Rattle.std.specs.List.{sum_by}
 use Rattle.std.proofs.lemmas.List.Sums.{sum_by-cons}
 use Rattle.std.proofs.lemmas.Bool.{false≢true, eqb-true, eq-eqb, ne_eqb, cases_lt, lt-ltb, ltb-true}
@@ -12,24 +13,27 @@ use Rattle.un_frame.specs.declared.kinds.Phase.{Phase}
 use Rattle.un_frame.specs.declared.kinds.Phase.TheVariants.{Up, Asleep, Stopping, Leaving, Down, Away}
 use Rattle.un_frame.specs.declared.kinds.FaultKind.TheVariants.{Proto, Halt}
 use Rattle.un_frame.specs.declared.params.Params.{Params}
-use Rattle.un_frame.specs.Lanes.{packs, same_lane}
+use Rattle.un_frame.specs.Lanes.{packs, same_lane, rx_size}
 use Rattle.un_journal.specs.declared.lines.Line.{Line}
 use Rattle.un_journal.specs.declared.lines.Line.TheVariants.{Took, Refused, Made, Waited, Posted, Flying, Landed, Failed, Marked, Cut, Dropped, TxHome, Opened, Gave, Recalled, Cleared, Settled}
-use Rattle.un_journal.specs.Script.{Script, Frame, feeds_of, frames_of, rx_size}
-use Rattle.un_journal.specs.History.{Entry, History, past, concerns, those, taken, consumed, made, cover, built, took_last, waited_after, posts, recalls, flights, failures, flight_cuts, posted, flies, halted, mark, told_if, returned, more_if, delivered}
+use Rattle.un_journal.specs.Script.{Script, Frame, feeds_of, frames_of}
+use Rattle.un_journal.specs.History.{Entry, History, past, concerns, those, taken, consumed, made, cover, built, took_last, waited_after, posts, recalls, flights, failures, flight_cuts, posted, flies, halted, mark, told_if, returned, more_if, delivered, ends}
 use Rattle.un_journal.specs.Lookup.{phase_of, phase_after, after_control, after_settled, works, is_awake, is_stopping, is_leaving, controls_done, feed_head, block_open, pending, rx_home}
 use Rattle.un_journal.specs.Sound.{IsSound}
 use Rattle.un_journal.specs.Drain.{line_bound}
 use Rattle.un_journal.specs.Fits.{Legal}
 use Rattle.un_journal.proofs.Given.{top, front, top_below, in_turn, unopened_above, in_front, next_above, front_below, cover_below}
-use Rattle.un_journal.proofs.Order.{ends, is_up}
+use Rattle.un_journal.proofs.Order.{is_up}
 use Rattle.un_journal.proofs.Steps.{legal_good}
-use Rattle.un_journal.proofs.Unique.{those_empty_below}
 use Rattle.un_journal.proofs.Delivery.{those_count}
 use Rattle.un_journal.proofs.Rules.{LaneRule, AllRuled, legal_ruled}
-use Rattle.un_journal.proofs.Homes.{AllLane, lane_ruled, landings, one_if, flight_sum, ends_made, returned_ends, HomeSums, home_sums, delivered_landed}
+use Rattle.un_journal.proofs.Homes.{AllLane, lane_ruled, landings, flight_sum, ends_made, returned_ends, HomeSums, home_sums, delivered_landed}
 use Rattle.un_journal.proofs.Finished.{controls_within}
 use Rattle.std.proofs.Math.Nat.{mul-le-mul_right}
+use Rattle.un_journal.proofs.Onto.{sound_under}
+use Rattle.un_journal.proofs.Lists.{those_empty}
+use Rattle.un_facts.proofs.Numbers.{one_most}
+use Rattle.un_facts.specs.Numbers.{one_if}
 
 -- COUNTS OF LINES
 
@@ -143,7 +147,7 @@ those_most p (suc n) = rw length-append (go (p n) (those_most p n))
     go false e = omega arith
 
 marked_all : (script : Script) (l : Lane) (g : History) → AllLane script l g → (n : ℕ) → made g ≤ n → length (those (λ k. is_some (mark g k)) n) ≡ markings g
-marked_all script l [] all n h = rw (those_empty_below (λ k. false) n (λ j i. refl)) refl
+marked_all script l [] all n h = rw (those_empty (λ k. false) n (λ j i. refl)) refl
 marked_all script l ((Made l' j a b, bytes) ∷ g) all n h = marked_all script l g all.1 n (omega arith)
 marked_all script l ((Marked l' j c, bytes) ∷ g) all n h =
     those_count (λ k. is_some (mark g k)) (λ k. is_some (told_if (j == k) c (mark g k))) j (ap is_some all.0.rule.0)
@@ -178,11 +182,6 @@ clearings_failed script l ((Settled t1 r1 t2 r2, bytes) ∷ g) all = let e : cle
 clearings_failed script l (e ∷ g) all = clearings_failed script l g all.1
 
 -- the pending count pays for the waited lines
-open_false : (b v : Bool) → (b && v && false) ≡ false
-open_false true true = refl
-open_false true false = refl
-open_false false v = refl
-
 pending_if : (b : Bool) (w : ℕ) → (if b then 3 - w else 0) ≤ 3
 pending_if true w = omega arith
 pending_if false w = omega arith
@@ -200,13 +199,13 @@ nothing_built : (blocks last : Bool) (t b : ℕ) → b ≡ t → (blocks && nat_
 nothing_built blocks last t b e after = grind (arith, nat_tests)
 
 waits_out : (script : Script) (g : History) → AllLane script Outward g → waits_written g + pending script.params Outward g ≤ 3 * taken g
-waits_out script [] all = rw (open_false (packs script.params.class Outward) (nat_lt 0 0)) (omega arith)
+waits_out script [] all = rw (and_false (packs script.params.class Outward && nat_lt 0 0)) (omega arith)
 waits_out script ((Took l s, bytes) ∷ g) all =
     let e : waits_written g + pending script.params Outward g ≤ 3 * taken g = waits_out script g all.1 in
     let p : pending script.params Outward ((Took l s, bytes) ∷ g) ≤ 3 = pending_if (block_open script.params Outward ((Took l s, bytes) ∷ g)) _ in omega arith
 waits_out script ((Made l k a b, bytes) ∷ g) all =
     let e : waits_written g + pending script.params Outward g ≤ 3 * taken g = waits_out script g all.1 in
-    rw (open_false (packs script.params.class Outward) (nat_lt 0 (taken g - b))) (omega arith)
+    rw (and_false (packs script.params.class Outward && nat_lt 0 (taken g - b))) (omega arith)
 waits_out script ((Waited l, bytes) ∷ g) all = wait_pays (block_open script.params Outward g) (waited_after g (min (taken g - 1) (cover g + 1))) (waits_written g) (3 * taken g) all.0.rule (waits_out script g all.1)
 waits_out script ((Dropped l a b c, bytes) ∷ g) all =
     drop_waits (block_open script.params Outward g) (block_open script.params Outward ((Dropped l a b c, bytes) ∷ g)) _ _ (waits_written g) (3 * taken g)
@@ -380,10 +379,6 @@ both_lanes ((Cleared l, bytes) ∷ older) = one_lane l (Cleared l, bytes) older 
 settled_in : (phase : Phase) → ℕ
 settled_in phase = one_if (is_stopping phase || is_leaving phase)
 
-one_most : (b : Bool) → one_if b ≤ 1
-one_most true = omega arith
-one_most false = omega arith
-
 after_stop : (phase : Phase) → (is_stopping phase || is_leaving phase) ≡ true → ((is_stopping (after_settled phase) || is_leaving (after_settled phase)) ≡ false) × (works (after_settled phase) ≡ works phase) × (is_awake (after_settled phase) ≡ is_awake phase)
 after_stop Stopping e = (refl, refl, refl)
 after_stop Leaving e = (refl, refl, refl)
@@ -479,10 +474,6 @@ paid_same script l e older p d r sound w =
       for_drops = rw (p, d) (omega arith);
       for_recalls = rw (p, d) (omega arith);
     }
-
-sound_under : (b : Bool) (e : Entry) (g : History) → IsSound (if b then (e ∷ g) else g) → IsSound g
-sound_under true e g s = s.1
-sound_under false e g s = s
 
 pub paid : (script : Script) (l : Lane) (older : History) → AllRuled script older → IsSound (filter (concerns l) older) → Paid script l older
 paid script l [] all sound = record { for_drops = omega arith; for_recalls = go (is_awake Up) }

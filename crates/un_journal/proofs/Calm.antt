@@ -2,6 +2,8 @@
 -- is posted; where it is down or away, every transmit request came home.
 use Rattle.std.proofs.Common.{◌≡◌, ℕ, zero, suc, ◌+◌, ◌-◌, ◌<◌, ◌≤◌, Bool, true, false, not, ◌&&◌, ◌||◌, ◌==◌, List, [], ◌∷◌, ◌++◌, Option, Some, inl, inr, refl, sym, ap, ◌∙◌, subst, arith, if◌then◌else◌, filter, reverse, slice_get, is_some}
 use Rattle.std.proofs.lemmas.Bool.{false≢true, eqb-true, eq-eqb, cases_lt, or_cases, or_left, or_right}
+use Rattle.un_frame.specs.Lanes.{tx_size}
+use Rattle.un_facts.specs.Numbers.{one_if}
 use Rattle.un_frame.specs.declared.params.Lane.{Lane}
 use Rattle.un_frame.specs.declared.params.Lane.TheVariants.{Outward, Inward}
 use Rattle.un_frame.specs.declared.kinds.Phase.{Phase}
@@ -10,21 +12,20 @@ use Rattle.un_journal.specs.declared.lines.Line.{Line}
 use Rattle.un_journal.specs.declared.lines.Line.TheVariants.{Took, Made, Posted, Flying, Landed, Failed, Marked, Cut, Dropped, TxHome, Recalled, Settled}
 use Rattle.un_journal.specs.declared.controls.Control.{Control as Order}
 use Rattle.un_journal.specs.declared.controls.Due.{Due}
-use Rattle.un_journal.specs.Script.{Script, tx_size}
-use Rattle.un_journal.specs.History.{Entry, History, past, concerns, those, taken, made, cover, built, posted, flies, waits, waiting, ended, landed, failed, was_cut, mark, returned, told_if}
-use Rattle.un_journal.specs.Lookup.{phase_of, phase_after, after_order, after_control, after_settled, works, is_awake, is_stopping, is_leaving, controls_done, tx_home, deferred, unmarked, is_deferring}
+use Rattle.un_journal.specs.Script.{Script}
+use Rattle.un_journal.specs.History.{Entry, History, past, concerns, those, taken, made, cover, built, posted, flies, waits, waiting, ended, landed, failed, was_cut, mark, returned, told_if, ends}
+use Rattle.un_journal.specs.Lookup.{phase_of, phase_after, after_order, after_control, after_settled, works, is_awake, is_stopping, is_leaving, controls_done, tx_home, deferred, unmarked, is_deferring, claim}
 use Rattle.un_journal.specs.LaneSteps.{bare}
 use Rattle.un_journal.specs.Step.{cut_each, marked_each, recalled_each, dropped_built, order_lines, settled_line}
 use Rattle.un_journal.specs.Sound.{IsSound}
 use Rattle.un_journal.specs.Done.{is_gone}
-use Rattle.un_journal.specs.Sums.{claim}
 use Rattle.un_journal.specs.Fits.{Act, Fits, takes, refuses, waits_once, closes, begins_flight, cuts_queued, lands, fails, cuts_flight, comes_home, opens, gives, posts_one, marks, recalls_one, clears, settles, orders, orders_forced, Legal, begins, goes_on, after_took}
 use Rattle.un_journal.proofs.Legal.{AllSound}
 use Rattle.un_journal.proofs.Steps.{legal_good}
-use Rattle.un_journal.proofs.Onto.{onto, onto_append, reverse_onto, filter_onto}
-use Rattle.un_journal.proofs.Rules.{LaneRule, Rule, AllRuled, AreStill, is_still_line, still_phase, legal_ruled, onto_cut, onto_marked, onto_recalled, onto_dropped, onto_stop, stop_part, order_part, order_filter, order_still, pick, made_still}
-use Rattle.un_journal.proofs.Homes.{ends_made, returned_ends, ended_below, one_if, legal_sums, HomeSums}
-use Rattle.un_journal.proofs.Order.{ends, is_up}
+use Rattle.un_journal.proofs.Onto.{onto, onto_append, reverse_onto, filter_onto, sound_under}
+use Rattle.un_journal.proofs.Rules.{LaneRule, Rule, AllRuled, AreStill, is_still_line, still_phase, legal_ruled, onto_cut, onto_marked, onto_recalled, onto_dropped, onto_stop, stop_part, order_part, order_filter, order_still, pick, made_still, ruled_base}
+use Rattle.un_journal.proofs.Homes.{ends_made, returned_ends, ended_below, legal_sums, HomeSums}
+use Rattle.un_journal.proofs.Order.{is_up}
 
 -- every transfer that isn't over is marked
 abbrev pub AllMarked : History → Type 0
@@ -135,20 +136,12 @@ calm_line script phase l (e, bytes) g still r sound w = record { emptied = w.emp
 
 -- MORE LINES
 
-ruled_base : (script : Script) (lines older : History) → AllRuled script (onto lines older) → AllRuled script older
-ruled_base script [] older all = all
-ruled_base script (e ∷ es) older all = (ruled_base script es (e ∷ older) all).1
-
 abbrev Sounds : History → Type 0
 Sounds older = (l : Lane) → IsSound (filter (concerns l) older)
 
-sound_rest : (b : Bool) (e : Entry) (g : History) → IsSound (if b then (e ∷ g) else g) → IsSound g
-sound_rest true e g s = s.1
-sound_rest false e g s = s
-
 sound_base : (lines older : History) → Sounds (onto lines older) → Sounds older
 sound_base [] older s l = s l
-sound_base (e ∷ es) older s l = sound_rest (concerns l e) e (filter (concerns l) older) (sound_base es (e ∷ older) s l)
+sound_base (e ∷ es) older s l = sound_under (concerns l e) e (filter (concerns l) older) (sound_base es (e ∷ older) s l)
 
 calm_if : (script : Script) (phase : Phase) (l : Lane) (b : Bool) (e : Entry) (g : History) → is_still_line e ≡ true → (b ≡ true → LaneRule script phase l e g) → IsSound (if b then (e ∷ g) else g) → CalmLane phase g → CalmLane phase (if b then (e ∷ g) else g)
 calm_if script phase l true e g still r sound w = calm_line script phase l e g still (r refl) sound w
@@ -206,11 +199,11 @@ abbrev pub has : ℕ → List ℕ → Bool
 has k [] = false
 has k (x ∷ xs) = x == k || has k xs
 
-has_append : (k : ℕ) (xs ys : List ℕ) → has k xs ≡ true → has k (xs ++ ys) ≡ true
+pub has_append : (k : ℕ) (xs ys : List ℕ) → has k xs ≡ true → has k (xs ++ ys) ≡ true
 has_append k [] ys e = absurd (false≢true e)
 has_append k (x ∷ xs) ys e = elim (or_cases (x == k) (has k xs) e) [ inl same ↦ or_left (x == k) (has k (xs ++ ys)) same | inr rest ↦ or_right (x == k) (has k (xs ++ ys)) (has_append k xs ys rest) ]
 
-has_last : (k : ℕ) (xs : List ℕ) → has k (xs ++ k ∷ []) ≡ true
+pub has_last : (k : ℕ) (xs : List ℕ) → has k (xs ++ k ∷ []) ≡ true
 has_last k [] = rw (eq-eqb k k refl) refl
 has_last k (x ∷ xs) = or_right (x == k) (has k (xs ++ k ∷ [])) (has_last k xs)
 

@@ -3,6 +3,8 @@ use Rattle.std.proofs.Common.{◌≡◌, ℕ, zero, suc, ◌+◌, ◌-◌, ◌<�
 use Rattle.std.specs.List.{list_all}
 use Rattle.std.proofs.lemmas.Bool.{false≢true, and_parts}
 use Rattle.std.proofs.lemmas.Option.{slice_get_past}
+use Rattle.un_facts.proofs.Lists.{empty_is}
+use Rattle.un_facts.specs.Lists.{is_empty}
 use Rattle.un_frame.specs.declared.params.Lane.{Lane}
 use Rattle.un_frame.specs.declared.params.Lane.TheVariants.{Outward, Inward}
 use Rattle.un_frame.specs.declared.kinds.Phase.{Phase}
@@ -12,7 +14,7 @@ use Rattle.un_journal.specs.declared.lines.Line.TheVariants.{Gave, Settled}
 use Rattle.un_journal.specs.declared.controls.Control.{Control as Order}
 use Rattle.un_journal.specs.declared.controls.Due.{Due}
 use Rattle.un_journal.specs.Script.{Script, feeds_of}
-use Rattle.un_journal.specs.History.{History, past, concerns, flying, given, is_empty}
+use Rattle.un_journal.specs.History.{History, past, concerns, flying, given}
 use Rattle.un_journal.specs.Lookup.{phase_of, phase_after, after_order, after_control, after_settled, is_stopping, is_leaving, controls_done}
 use Rattle.un_journal.specs.LaneSteps.{Outcome, lines_in}
 use Rattle.un_journal.specs.Step.{Work, work, is_still, lane_works, quiet, control_head}
@@ -21,7 +23,7 @@ use Rattle.un_journal.proofs.Ranges.{HavePools}
 use Rattle.un_journal.specs.Done.{IsFinished, is_gone, NoneFlies}
 use Rattle.un_journal.specs.Unplug.{AwaitsUnplug, IsSettledAway, IsPrefix}
 use Rattle.un_journal.specs.Fits.{Act, Works, Controls, Fits, Legal, IsDone, act_outcome}
-use Rattle.un_journal.proofs.Legal.{none_flies, empty_is}
+use Rattle.un_journal.proofs.Legal.{none_flies}
 use Rattle.un_journal.proofs.Steps.{legal_good}
 use Rattle.un_journal.proofs.Onto.{onto, past_onto}
 use Rattle.un_journal.proofs.Rules.{AllRuled, legal_ruled}

@@ -1,6 +1,6 @@
 -- The lines of every outcome are a step that fits.
 use Rattle.std.proofs.Common.{◌≡◌, ℕ, ◌-◌, ◌<◌, Bool, true, false, not, ◌&&◌, ◌||◌, ◌==◌, List, [], ◌∷◌, Option, Some, None, ◌⊎◌, inl, inr, refl, sym, ap, subst, arith, if◌then◌else◌, nat_lt, slice_get, reverse}
-use Rattle.std.proofs.lemmas.Bool.{false≢true, eqb-false, ltb-true, ltb-false}
+use Rattle.std.proofs.lemmas.Bool.{false≢true, eqb-false, ltb-true, ltb-false, not-false}
 use Rattle.un_frame.specs.declared.params.Lane.{Lane}
 use Rattle.un_frame.specs.declared.params.Lane.TheVariants.{Outward, Inward}
 use Rattle.un_frame.specs.declared.kinds.Phase.{Phase}
@@ -14,17 +14,14 @@ use Rattle.un_journal.specs.declared.controls.Due.{Due}
 use Rattle.un_journal.specs.Script.{Script, Frame, planned}
 use Rattle.un_journal.specs.History.{History, past, taken, cover, built, flies, flying, posted, first, made, mark, ended, returned, halted, arrived, current, left_of}
 use Rattle.un_journal.specs.Lookup.{phase_of, works, is_awake, is_asleep, is_stopping, is_leaving, pending, tx_home, rx_home, offer_needs_home, tick_needs_home, feed_head, queued, unmarked, controls_done, span_after_took}
-use Rattle.un_journal.specs.LaneSteps.{Outcome, Writes, Answers, lines_in, take_with, take_first, take_head, land_marked, land_planned, tx_done, rx_done_at, open_first, deliver_current, deliver_number, unlink_first}
+use Rattle.un_journal.specs.LaneSteps.{Outcome, Writes, Answers, take_with, take_first, take_head, land_marked, land_planned, tx_done, rx_done_at, open_first, deliver_current, deliver_number, unlink_first}
 use Rattle.un_journal.specs.Step.{judge, offer_head, tick, land_from, refill, unlink, clear_halt, settle, all_home, control_head, control_now, made_entry, control_forced, hinders, is_due, quiet, Work}
 use Rattle.un_journal.specs.Step.{Offer, Tick, Land, TxDone, RxDone, Deliver, Refill, Unlink, ClearHalt, Settle}
 use Rattle.un_journal.specs.Fits.{Act, Works, Controls, Fits, takes, refuses, waits_once, closes, begins_flight, cuts_queued, lands, fails, cuts_flight, comes_home, opens, gives, posts_one, marks, recalls_one, clears, settles, orders, orders_forced, act_outcome, after_took}
-use Rattle.un_journal.proofs.Lists.{those_first}
+use Rattle.un_journal.proofs.Lists.{those_first, writes_same}
 
 never_writes : (a : Answer) (xs : History) → Answers a ≡ Writes xs → ⊥
 never_writes a xs e = cc
-
-same_lines : (xs ys : History) → Writes xs ≡ Writes ys → xs ≡ ys
-same_lines xs ys e = ap lines_in e
 
 -- the row below, where this row answers
 pass : (b : Bool) (a : Answer) (o : Outcome) (xs : History) → (if b then Answers a else o) ≡ Writes xs → (b ≡ false) × (o ≡ Writes xs)
@@ -37,7 +34,7 @@ stop true a o xs e = (refl, e)
 stop false a o xs e = absurd (never_writes a xs e)
 
 fork : (b : Bool) (ys : History) (o : Outcome) (xs : History) → (if b then Writes ys else o) ≡ Writes xs → ((b ≡ true) × (ys ≡ xs)) ⊎ ((b ≡ false) × (o ≡ Writes xs))
-fork true ys o xs e = inl (refl, same_lines ys xs e)
+fork true ys o xs e = inl (refl, writes_same ys xs e)
 fork false ys o xs e = inr (refl, e)
 
 some_from : (n : ℕ) → (n == 0) ≡ false → 0 < n
@@ -55,20 +52,16 @@ awake_from Leaving a w = absurd (false≢true (sym w))
 awake_from Down a w = absurd (false≢true (sym w))
 awake_from Away a w = absurd (false≢true (sym w))
 
-not_false : (b : Bool) → not b ≡ false → b ≡ true
-not_false true e = refl
-not_false false e = absurd (false≢true (sym e))
-
 -- OFFER
 
 judged : (script : Script) (h : History) (lane : Lane) (sender : ℕ) (frame : Frame) (xs : History) (v : Verdict) → works (phase_of script h) ≡ true → feed_head script lane (past lane h) sender ≡ Some frame
     → verdict_of script.params lane frame ≡ v → judge script lane sender (past lane h) v ≡ Writes xs → Fits script h (Works (Offer lane sender)) xs
 judged script h lane sender frame xs Take w e v o =
     let r = pass (offer_needs_home script.params lane (past lane h) (span_after_took script lane (after_took lane sender (past lane h))) && (tx_home script.params lane (past lane h) == 0)) _ _ xs o in
-    subst (Fits script h (Works (Offer lane sender))) (same_lines _ xs r.1) (takes lane sender frame w e v (home_from _ _ r.0))
-judged script h lane sender frame xs Short w e v o = subst (Fits script h (Works (Offer lane sender))) (same_lines _ xs o) (refuses lane sender frame Short w e v (λ q. cc))
-judged script h lane sender frame xs Long w e v o = subst (Fits script h (Works (Offer lane sender))) (same_lines _ xs o) (refuses lane sender frame Long w e v (λ q. cc))
-judged script h lane sender frame xs Filtered w e v o = subst (Fits script h (Works (Offer lane sender))) (same_lines _ xs o) (refuses lane sender frame Filtered w e v (λ q. cc))
+    subst (Fits script h (Works (Offer lane sender))) (writes_same _ xs r.1) (takes lane sender frame w e v (home_from _ _ r.0))
+judged script h lane sender frame xs Short w e v o = subst (Fits script h (Works (Offer lane sender))) (writes_same _ xs o) (refuses lane sender frame Short w e v (λ q. cc))
+judged script h lane sender frame xs Long w e v o = subst (Fits script h (Works (Offer lane sender))) (writes_same _ xs o) (refuses lane sender frame Long w e v (λ q. cc))
+judged script h lane sender frame xs Filtered w e v o = subst (Fits script h (Works (Offer lane sender))) (writes_same _ xs o) (refuses lane sender frame Filtered w e v (λ q. cc))
 
 offered : (script : Script) (h : History) (lane : Lane) (sender : ℕ) (xs : History) (head : Option Frame) → feed_head script lane (past lane h) sender ≡ head
     → offer_head script (phase_of script h) lane sender (past lane h) head ≡ Writes xs → Fits script h (Works (Offer lane sender)) xs
@@ -88,19 +81,19 @@ ticked script h lane xs o =
     elim (fork (nat_lt 0 (pending script.params lane (past lane h))) _ _ xs r.1) [
       | inl q ↦ subst (Fits script h (Works (Tick lane))) q.1 (waits_once lane (ltb-true 0 _ q.0))
       | inr q ↦ let s = pass (tick_needs_home script.params lane (past lane h) && (tx_home script.params lane (past lane h) == 0)) _ _ xs q.1 in
-          close script h lane xs xs r.0 q.0 s.0 (same_lines _ xs s.1)
+          close script h lane xs xs r.0 q.0 s.0 (writes_same _ xs s.1)
     ]
 
 -- TAKE AND LAND
 
 taken_head : (script : Script) (h : History) (lane : Lane) (xs : History) (k : ℕ) (m : Option ℕ) → flying (past lane h) ≡ [] → first (queued (phase_of script h) lane (past lane h)) ≡ Some k → mark (past lane h) k ≡ m
     → take_head (is_asleep (phase_of script h)) lane (past lane h) k m ≡ Writes xs → Fits script h (Works (Work.Take lane)) xs
-taken_head script h lane xs k (Some c) none q m o = subst (Fits script h (Works (Work.Take lane))) (same_lines _ xs o) (cuts_queued lane k c none q m)
+taken_head script h lane xs k (Some c) none q m o = subst (Fits script h (Works (Work.Take lane))) (writes_same _ xs o) (cuts_queued lane k c none q m)
 taken_head script h lane xs k None none q m o =
     let r = pass (is_asleep (phase_of script h)) _ _ xs o in
     let s = pass (halted (past lane h)) _ _ xs r.1 in
     let t = pass (posted (past lane h) == 0) _ _ xs s.1 in
-    subst (Fits script h (Works (Work.Take lane))) (same_lines _ xs t.1) (begins_flight lane k r.0 none q m s.0 (some_from _ t.0))
+    subst (Fits script h (Works (Work.Take lane))) (writes_same _ xs t.1) (begins_flight lane k r.0 none q m s.0 (some_from _ t.0))
 
 taken_first : (script : Script) (h : History) (lane : Lane) (xs : History) (ks : List ℕ) → flying (past lane h) ≡ [] → queued (phase_of script h) lane (past lane h) ≡ ks
     → take_first (is_asleep (phase_of script h)) lane (past lane h) ks ≡ Writes xs → Fits script h (Works (Work.Take lane)) xs
@@ -114,12 +107,12 @@ taken_from script h lane xs (k ∷ ks) e o = absurd (never_writes _ xs o)
 
 landed_plan : (script : Script) (h : History) (lane : Lane) (xs : History) (k : ℕ) (p : Option FaultKind) → flies (past lane h) k ≡ true → mark (past lane h) k ≡ None → planned script lane k ≡ p
     → land_planned lane k p ≡ Writes xs → Fits script h (Works (Land lane)) xs
-landed_plan script h lane xs k None f m p o = subst (Fits script h (Works (Land lane))) (same_lines _ xs o) (lands lane k f m p)
-landed_plan script h lane xs k (Some kind) f m p o = subst (Fits script h (Works (Land lane))) (same_lines _ xs o) (fails lane k kind f m p)
+landed_plan script h lane xs k None f m p o = subst (Fits script h (Works (Land lane))) (writes_same _ xs o) (lands lane k f m p)
+landed_plan script h lane xs k (Some kind) f m p o = subst (Fits script h (Works (Land lane))) (writes_same _ xs o) (fails lane k kind f m p)
 
 landed_mark : (script : Script) (h : History) (lane : Lane) (xs : History) (k : ℕ) (m : Option ℕ) → flies (past lane h) k ≡ true → mark (past lane h) k ≡ m
     → land_marked lane (planned script lane k) k m ≡ Writes xs → Fits script h (Works (Land lane)) xs
-landed_mark script h lane xs k (Some c) f m o = subst (Fits script h (Works (Land lane))) (same_lines _ xs o) (cuts_flight lane k c f m)
+landed_mark script h lane xs k (Some c) f m o = subst (Fits script h (Works (Land lane))) (writes_same _ xs o) (cuts_flight lane k c f m)
 landed_mark script h lane xs k None f m o = landed_plan script h lane xs k (planned script lane k) f m refl o
 
 landed_from : (script : Script) (h : History) (lane : Lane) (xs : History) (ks : List ℕ) → flying (past lane h) ≡ ks → land_from script lane (past lane h) ks ≡ Writes xs → Fits script h (Works (Land lane)) xs
@@ -131,11 +124,11 @@ landed_from script h lane xs (k ∷ ks) e o =
 
 homeward : (script : Script) (h : History) (lane : Lane) (xs : History) → tx_done lane (past lane h) ≡ Writes xs → Fits script h (Works (TxDone lane)) xs
 homeward script h lane xs o =
-    let r = stop (ended (past lane h) (returned (past lane h))) _ _ xs o in subst (Fits script h (Works (TxDone lane))) (same_lines _ xs r.1) (comes_home lane r.0)
+    let r = stop (ended (past lane h) (returned (past lane h))) _ _ xs o in subst (Fits script h (Works (TxDone lane))) (writes_same _ xs r.1) (comes_home lane r.0)
 
 opened_first : (script : Script) (h : History) (lane : Lane) (xs : History) (ks : List ℕ) → current (past lane h) ≡ None → arrived (past lane h) ≡ ks → open_first lane ks ≡ Writes xs → Fits script h (Works (RxDone lane)) xs
 opened_first script h lane xs [] c e o = absurd (never_writes _ xs o)
-opened_first script h lane xs (k ∷ ks) c e o = subst (Fits script h (Works (RxDone lane))) (same_lines _ xs o) (opens lane k c (ap first e))
+opened_first script h lane xs (k ∷ ks) c e o = subst (Fits script h (Works (RxDone lane))) (writes_same _ xs o) (opens lane k c (ap first e))
 
 opened_at : (script : Script) (h : History) (lane : Lane) (xs : History) (c : Option ℕ) → current (past lane h) ≡ c → rx_done_at lane (past lane h) c ≡ Writes xs → Fits script h (Works (RxDone lane)) xs
 opened_at script h lane xs (Some k) e o = absurd (never_writes _ xs o)
@@ -143,7 +136,7 @@ opened_at script h lane xs None e o = opened_first script h lane xs (arrived (pa
 
 gave_first : (script : Script) (h : History) (lane : Lane) (xs : History) (k : ℕ) (ns : List ℕ) → current (past lane h) ≡ Some k → left_of (past lane h) k ≡ ns → deliver_number script.params lane (past lane h) k ns ≡ Writes xs → Fits script h (Works (Deliver lane)) xs
 gave_first script h lane xs k [] c e o = absurd (never_writes _ xs o)
-gave_first script h lane xs k (n ∷ ns) c e o = subst (Fits script h (Works (Deliver lane))) (same_lines _ xs o) (gives lane k n c (ap first e))
+gave_first script h lane xs k (n ∷ ns) c e o = subst (Fits script h (Works (Deliver lane))) (writes_same _ xs o) (gives lane k n c (ap first e))
 
 gave_at : (script : Script) (h : History) (lane : Lane) (xs : History) (c : Option ℕ) → current (past lane h) ≡ c → deliver_current script.params lane (past lane h) c ≡ Writes xs → Fits script h (Works (Deliver lane)) xs
 gave_at script h lane xs None e o = absurd (never_writes _ xs o)
@@ -154,13 +147,13 @@ refilled script h lane xs o =
     let r = pass (is_asleep (phase_of script h)) _ _ xs o in
     let s = pass (not (works (phase_of script h))) _ _ xs r.1 in
     let t = pass (rx_home script.params lane (past lane h) == 0) _ _ xs s.1 in
-    subst (Fits script h (Works (Refill lane))) (same_lines _ xs t.1) (posts_one lane (awake_from (phase_of script h) r.0 s.0) (some_from _ t.0))
+    subst (Fits script h (Works (Refill lane))) (writes_same _ xs t.1) (posts_one lane (awake_from (phase_of script h) r.0 s.0) (some_from _ t.0))
 
 unlinked_first : (script : Script) (h : History) (lane : Lane) (xs : History) (ks : List ℕ) → is_stopping (phase_of script h) ≡ true → unmarked (phase_of script h) lane (past lane h) ≡ ks
     → unlink_first lane (controls_done (reverse h) - 1) (past lane h) ks ≡ Writes xs → Fits script h (Works (Unlink lane)) xs
-unlinked_first script h lane xs (k ∷ ks) s e o = subst (Fits script h (Works (Unlink lane))) (same_lines _ xs o) (marks lane k s (ap first e))
+unlinked_first script h lane xs (k ∷ ks) s e o = subst (Fits script h (Works (Unlink lane))) (writes_same _ xs o) (marks lane k s (ap first e))
 unlinked_first script h lane xs [] s e o =
-    let t = pass (posted (past lane h) == 0) _ _ xs o in subst (Fits script h (Works (Unlink lane))) (same_lines _ xs t.1) (recalls_one lane s e (some_from _ t.0))
+    let t = pass (posted (past lane h) == 0) _ _ xs o in subst (Fits script h (Works (Unlink lane))) (writes_same _ xs t.1) (recalls_one lane s e (some_from _ t.0))
 
 unlinked : (script : Script) (h : History) (lane : Lane) (xs : History) → unlink (phase_of script h) lane (controls_done (reverse h) - 1) (past lane h) ≡ Writes xs → Fits script h (Works (Unlink lane)) xs
 unlinked script h lane xs o = let r = stop (is_stopping (phase_of script h)) _ _ xs o in unlinked_first script h lane xs (unmarked (phase_of script h) lane (past lane h)) r.0 refl r.1
@@ -170,13 +163,13 @@ cleared script h lane xs o =
     let r = pass (is_asleep (phase_of script h)) _ _ xs o in
     let s = pass (not (works (phase_of script h))) _ _ xs r.1 in
     let t = stop (halted (past lane h)) _ _ xs s.1 in
-    subst (Fits script h (Works (ClearHalt lane))) (same_lines _ xs t.1) (clears lane (awake_from (phase_of script h) r.0 s.0) t.0)
+    subst (Fits script h (Works (ClearHalt lane))) (writes_same _ xs t.1) (clears lane (awake_from (phase_of script h) r.0 s.0) t.0)
 
 settled : (script : Script) (h xs : History) → settle script h ≡ Writes xs → Fits script h (Works Settle) xs
 settled script h xs o =
     let r = pass (not (is_stopping (phase_of script h) || is_leaving (phase_of script h))) _ _ xs o in
     let s = stop (all_home script h) _ _ xs r.1 in
-    subst (Fits script h (Works Settle)) (same_lines _ xs s.1) (settles (not_false _ r.0) s.0)
+    subst (Fits script h (Works Settle)) (writes_same _ xs s.1) (settles (not-false _ r.0) s.0)
 
 -- CONTROLS
 
@@ -185,14 +178,14 @@ forced_now : (script : Script) (h xs : History) (force : Bool) (due : Due) (b : 
 forced_now script h xs force due false q e p d o = absurd (never_writes _ xs o)
 forced_now script h xs true due true q e p d o =
     let r = pass (nat_lt 0 (hinders due.control (phase_of script h) (past Outward h) (past Inward h))) _ _ xs o in
-    subst (Fits script h (Controls true)) (same_lines _ xs r.1) (orders_forced due e p d q (let low = ltb-false 0 (hinders due.control (phase_of script h) (past Outward h) (past Inward h)) r.0 in omega (arith, low)))
+    subst (Fits script h (Controls true)) (writes_same _ xs r.1) (orders_forced due e p d q (let low = ltb-false 0 (hinders due.control (phase_of script h) (past Outward h) (past Inward h)) r.0 in omega (arith, low)))
 forced_now script h xs false due true q e p d o = absurd (false≢true q)
 
 due_now : (script : Script) (h xs : History) (force : Bool) (due : Due) (d : Bool) → is_due script h due ≡ d → slice_get script.controls (controls_done (reverse h)) ≡ Some due
     → (is_stopping (phase_of script h) || is_leaving (phase_of script h)) ≡ false → (if d then control_now script h due false else control_forced script h due (force && quiet script h)) ≡ Writes xs → Fits script h (Controls force) xs
 due_now script h xs force due true d e p o =
     let r = pass (nat_lt 0 (hinders due.control (phase_of script h) (past Outward h) (past Inward h))) _ _ xs o in
-    subst (Fits script h (Controls force)) (same_lines _ xs r.1) (orders force due e p d (let low = ltb-false 0 (hinders due.control (phase_of script h) (past Outward h) (past Inward h)) r.0 in omega (arith, low)))
+    subst (Fits script h (Controls force)) (writes_same _ xs r.1) (orders force due e p d (let low = ltb-false 0 (hinders due.control (phase_of script h) (past Outward h) (past Inward h)) r.0 in omega (arith, low)))
 due_now script h xs force due false d e p o = forced_now script h xs force due (force && quiet script h) refl e p d o
 
 ordered : (script : Script) (h xs : History) (force : Bool) (head : Option Due) → slice_get script.controls (controls_done (reverse h)) ≡ head → control_head script h force head ≡ Writes xs → Fits script h (Controls force) xs

@@ -1,7 +1,9 @@
 -- The census of a number: its counts are those of the five places, so they add up to 1 where it is accepted.
 use Rattle.std.proofs.Common.{◌≡◌, ℕ, zero, suc, ◌+◌, ◌-◌, ◌<◌, ◌≤◌, Bool, true, false, not, ◌&&◌, ◌||◌, ◌==◌, nat_lt, List, [], ◌∷◌, ◌++◌, Option, Some, None, inl, inr, refl, sym, ap, ◌∙◌, subst, arith, if◌then◌else◌, filter, is_some}
-use Rattle.std.proofs.lemmas.Bool.{false≢true, cases_lt, eqb-true, eqb-false, eq-eqb, ne_eqb, and_parts, lt-ltb}
-use Rattle.std.proofs.lemmas.Bool.Decides.{nat_tests}
+use Rattle.std.proofs.lemmas.Bool.{false≢true, cases_lt, eqb-true, eqb-false, eq-eqb, ne_eqb, and_parts, lt-ltb, le-ltb, not-true}
+use Rattle.std.proofs.lemmas.Option.{same_Some, none-some}
+use Rattle.un_facts.specs.Lists.{is_empty}
+use Rattle.un_facts.specs.Numbers.{one_if, within}
 use Rattle.un_frame.specs.declared.params.Lane.{Lane}
 use Rattle.un_frame.specs.declared.params.Lane.TheVariants.{Outward, Inward}
 use Rattle.un_frame.specs.declared.params.Params.{Params}
@@ -9,14 +11,14 @@ use Rattle.un_frame.specs.declared.kinds.Phase.{Phase}
 use Rattle.un_frame.specs.declared.kinds.Phase.TheVariants.{Up, Asleep, Stopping, Leaving, Down, Away}
 use Rattle.un_journal.specs.declared.census.Census.{Census}
 use Rattle.un_journal.specs.declared.lines.Line.TheVariants.{Made, Failed, Cut, Dropped, Gave}
-use Rattle.un_journal.specs.History.{History, told_if, those, first, row_from, numbers, within, more_if, taken, cover, made, span, span_numbers, serial_of, dropped, flies, waits, landed, failed, was_cut, opened, gave, given, left_of, is_empty, waiting, flying, arrived, current, for_serial, in_builder, in_list, in_transfer, at_peer, is_lost}
+use Rattle.un_journal.specs.History.{History, told_if, those, first, row_from, numbers, more_if, taken, cover, made, span, span_numbers, serial_of, dropped, flies, waits, landed, failed, was_cut, opened, gave, given, left_of, waiting, flying, arrived, current, for_serial, in_builder, in_list, in_transfer, at_peer, is_lost}
 use Rattle.un_journal.specs.Lookup.{block_open, deferred, queued}
 use Rattle.un_journal.specs.Sound.{IsSound}
 use Rattle.un_journal.specs.Places.{trues, places}
-use Rattle.un_journal.specs.Census.{occurrences, numbers_of, built_numbers, in_block, outside_block, left_in, lost_numbers, lane_census, total, one_if, NamesPlace, nowhere}
-use Rattle.un_journal.proofs.Lists.{some_same, none≢some, IsFirstOf, those_first, those_none, first_none, row_first}
+use Rattle.un_journal.specs.Census.{occurrences, numbers_of, built_numbers, in_block, outside_block, left_in, lost_numbers, lane_census, total, NamesPlace, nowhere}
+use Rattle.un_journal.proofs.Lists.{IsFirstOf, those_first, those_none, first_none, row_first}
 use Rattle.un_journal.proofs.Numbers.{owned, given_from, opened_landed, within_yes, within_below, within_above, within_true}
-use Rattle.un_journal.proofs.Legal.{has_span, OwnsSpan, owns_span, not_true, whole_gave, is_top, fresh}
+use Rattle.un_journal.proofs.Legal.{has_span, OwnsSpan, owns_span, whole_gave, is_top, fresh}
 use Rattle.un_journal.proofs.Given.{cover_below, top}
 use Rattle.un_journal.proofs.Status.{NoneEnded, status_of, flying_open, cut_open, waits_only}
 use Rattle.un_journal.proofs.OnePlace.{partition}
@@ -83,9 +85,6 @@ occurrences_filter p n (x ∷ xs) = go (x == n) refl (p x) refl (occurrences_fil
 
 -- THE NUMBERS OF TRANSFERS
 
-not_below : (j m : ℕ) → m ≤ j → nat_lt j m ≡ false
-not_below j m h = grind (arith, nat_tests)
-
 -- whether this is its transfer
 abbrev is_owner : Option ℕ → ℕ → Bool
 is_owner o k = for_serial (λ j. j == k) o
@@ -96,9 +95,6 @@ not_owner (Some j) k never = ne_eqb j k (λ e. never (ap (λ i. Some i) e))
 
 owner_is : (o : Option ℕ) (k : ℕ) → o ≡ Some k → is_owner o k ≡ true
 owner_is o k e = rw e (eq-eqb k k refl)
-
-same_pair : (x y : ℕ × ℕ) → Some x ≡ Some y → x ≡ y
-same_pair x y e = cc
 
 span_occurrences : (g : History) → IsSound g → (k n : ℕ) → occurrences n (span_numbers (span g k)) ≡ one_if (is_owner (serial_of g n) k)
 span_occurrences g sound k n = go (span g k) refl
@@ -117,7 +113,7 @@ span_occurrences g sound k n = go (span g k) refl
         same true v = let r = within_true s.0 s.1 n v in v ∙ sym (owner_is (serial_of g n) k (w.owns n r.0 r.1))
         same false v = v ∙ sym (not_owner (serial_of g n) k (λ i.
             let h = has_span g sound n k i in
-            let p : s ≡ (h.from, h.to) = same_pair s (h.from, h.to) (sym e ∙ h.is_span) in
+            let p : s ≡ (h.from, h.to) = same_Some s (h.from, h.to) (sym e ∙ h.is_span) in
             let lo : s.0 ≡ h.from = ap (λ (q : ℕ × ℕ). q.0) p in
             let hi : s.1 ≡ h.to = ap (λ (q : ℕ × ℕ). q.1) p in
             let above : h.from ≤ n = h.above in
@@ -163,10 +159,10 @@ listed_more p m (Some j) = elim (cases_lt j m) [
   | inr high ↦ elim (cases_lt m j) [
     | inl above ↦
         let e : counted (p m) 0 ≡ 0 = counted_none (p m) in
-        rw (not_below j m high, not_below j (suc m) (omega arith), ne_eqb j m (λ i. omega (arith, i))) (omega arith)
+        rw (le-ltb j m high, le-ltb j (suc m) (omega arith), ne_eqb j m (λ i. omega (arith, i))) (omega arith)
     | inr equal ↦ let same : j ≡ m = omega arith in
         subst (λ i. one_if (nat_lt i m && p i) + counted (p m) (one_if (i == m)) ≡ one_if (nat_lt i (suc m) && p i)) (sym same)
-        (let e : counted (p m) 1 ≡ one_if (p m) = counted_one (p m) in rw (not_below m m (omega arith), lt-ltb m (suc m) (omega arith), eq-eqb m m refl) (omega arith))
+        (let e : counted (p m) 1 ≡ one_if (p m) = counted_one (p m) in rw (le-ltb m m (omega arith), lt-ltb m (suc m) (omega arith), eq-eqb m m refl) (omega arith))
   ]
 ]
 
@@ -175,7 +171,7 @@ listed g sound n p zero = none (serial_of g n)
   where
     none : (o : Option ℕ) → 0 ≡ listed_below p 0 o
     none None = refl
-    none (Some j) = rw (not_below j 0 (omega arith)) refl
+    none (Some j) = rw (le-ltb j 0 (omega arith)) refl
 listed g sound n p (suc m) =
     numbers_append g n (those p m) _ ∙ (ap (λ i. i + occurrences n (numbers_of g (if p m then m ∷ [] else []))) (listed g sound n p m)
     ∙ (ap (λ i. listed_below p m (serial_of g n) + i) (one_more g n (p m) m sound) ∙ listed_more p m (serial_of g n)))
@@ -206,15 +202,12 @@ left_number g sound k e = go (span g k) refl e
         record {
           number = m;
           is_mine = w.owns m r.from (let order : s.0 ≤ s.1 = w.in_order in let hi : m < s.0 + (s.1 - s.0) = r.to in omega arith);
-          is_left = not_true (gave g m) r.passes;
+          is_left = not-true (gave g m) r.passes;
         }
 
     go : (o : Option (ℕ × ℕ)) → span g k ≡ o → is_empty (filter (λ m. not (gave g m)) (span_numbers o)) ≡ false → LeftNumber g k
     go None q e = absurd (false≢true (sym e))
     go (Some s) q e = at_first s q _ refl e
-
-not_empty : (b : Bool) → not b ≡ true → b ≡ false
-not_empty b e = not_true b e
 
 -- only the current transfer can have been opened and have a number left
 current_owner : (g : History) → IsSound g → (n c k : ℕ) → current g ≡ Some c → serial_of g n ≡ Some k → gave g n ≡ false → opened g k ≡ (k == c)
@@ -231,7 +224,7 @@ current_owner g sound n c k cur own left = go (k == c) refl (opened g k) refl
     go false e false i = refl
     go true e false i = absurd (false≢true (sym (subst (λ j. opened g j ≡ false) (eqb-true k c e) i) ∙ r.0))
     go false e true i =
-        let m = left_number g sound c (not_empty _ r.1) in
+        let m = left_number g sound c (not-true _ r.1) in
         let p : k + 1 ≡ top g = is_top g sound k n i own left in
         let q : c + 1 ≡ top g = is_top g sound c m.number r.0 m.is_mine m.is_left in
         absurd (let apart = eqb-false k c e in omega (arith, apart))
@@ -305,10 +298,6 @@ end_once k (Some j) d p q apart fresh' more = rw (more j, apart refl) (go (k == 
     go false e false f = omega arith
     go true e false f = absurd (eqb-false j k f (sym (eqb-true k j e)))
     go false e true f = absurd (eqb-false k j e (sym (eqb-true j k f)))
-
-lost_either : (x c : Bool) → (x || c) ≡ false → (x ≡ false) × (c ≡ false)
-lost_either true c e = absurd (false≢true (sym e))
-lost_either false c e = (refl, e)
 
 none_ended : (l x c : Bool) → NoneEnded l x c → (x || c) ≡ false
 none_ended l x c w = rw (w.not_failed, w.not_cut) refl
@@ -424,7 +413,7 @@ list_counts phase lane g sound n =
         ≡ one_if (for_serial (λ k. waits g k || (landed g k && not (gave g n))) o)
     go None e = refl
     go (Some k) e = list_by (waits g k) (landed g k) (opened g k) (gave g n) (waits_apart (flies g k) (landed g k) (failed g k) (was_cut g k)) (opened_landed g sound k)
-        (λ v. let r = given_from g sound n v in subst (λ j. opened g j ≡ true) (some_same r.serial k (sym r.is_owner ∙ e)) r.was_opened)
+        (λ v. let r = given_from g sound n v in subst (λ j. opened g j ≡ true) (same_Some r.serial k (sym r.is_owner ∙ e)) r.was_opened)
 
 five : (a b c d e : Bool) → trues (a ∷ b ∷ c ∷ d ∷ e ∷ []) ≡ one_if a + one_if b + one_if c + one_if d + one_if e
 five a b c d e =
@@ -472,7 +461,7 @@ module _ (params : Params) (phase : Phase) (lane : Lane) (g : History) (sound : 
 
   not_given : serial_of g n ≡ None → (v : Bool) → gave g n ≡ v → v ≡ false
   not_given none false e = refl
-  not_given none true e = let r = given_from g sound n e in absurd (none≢some r.serial (sym none ∙ r.is_owner))
+  not_given none true e = let r = given_from g sound n e in absurd (none-some r.serial (sym none ∙ r.is_owner))
 
   pub is_nowhere : taken g ≤ n → lane_census params phase lane g n ≡ nowhere
   is_nowhere high =

@@ -1,15 +1,18 @@
 -- What one more gave line changes: the current transfer has one number less left, and where none is left it is delivered.
 use Rattle.std.proofs.Common.{◌≡◌, ℕ, zero, suc, ◌+◌, ◌-◌, ◌<◌, ◌≤◌, Bool, true, false, not, ◌&&◌, ◌||◌, ◌==◌, List, [], ◌∷◌, length, Option, Some, None, ◌⊎◌, inl, inr, refl, sym, ap, ◌∙◌, subst, arith, if◌then◌else◌, filter, length-append}
-use Rattle.std.proofs.lemmas.Bool.{ne_eqb, eq-eqb, cases_lt, cases_eq}
+use Rattle.std.proofs.lemmas.Bool.{ne_eqb, eq-eqb, cases_lt, cases_eq, not-true}
+use Rattle.std.proofs.lemmas.Option.{same_Some}
+use Rattle.un_facts.proofs.Lists.{cons_parts}
+use Rattle.un_facts.specs.Lists.{is_empty}
 use Rattle.un_frame.specs.declared.params.Lane.{Lane}
 use Rattle.un_journal.specs.declared.lines.Line.TheVariants.{Gave}
-use Rattle.un_journal.specs.History.{History, made, gave, span, span_numbers, serial_of, landed, opened, left_of, delivered, is_empty, those, row_from}
+use Rattle.un_journal.specs.History.{History, made, gave, span, span_numbers, serial_of, landed, opened, left_of, delivered, those, row_from}
 use Rattle.un_journal.specs.Sound.{IsSound}
-use Rattle.un_journal.proofs.Lists.{row_first}
+use Rattle.un_journal.proofs.Lists.{row_first, those_empty}
 use Rattle.un_journal.specs.History.{current, first}
-use Rattle.un_journal.proofs.Legal.{owns_span, landed_made, is_top, not_true}
+use Rattle.un_journal.proofs.Legal.{owns_span, landed_made, is_top}
 use Rattle.un_journal.proofs.Given.{top}
-use Rattle.un_journal.proofs.Unique.{those_empty_below, those_first_is}
+use Rattle.un_journal.proofs.Unique.{those_first_is}
 use Rattle.un_journal.proofs.Numbers.{opened_landed}
 
 -- counting where one more passes
@@ -47,9 +50,6 @@ filter_outside p q a (suc m) n other out =
     let here : q a ≡ p a = other a (λ e. out a (omega arith) (omega arith) e) in
     rw (here, filter_outside p q (a + 1) m n other (λ j l h e. out j (omega arith) (omega arith) e)) refl
 
-cons_parts : (x n : ℕ) (xs ns : List ℕ) → x ∷ xs ≡ n ∷ ns → (x ≡ n) × (xs ≡ ns)
-cons_parts x n xs ns e = (cc, cc)
-
 filter_first : (p q : ℕ → Bool) (n : ℕ) → q n ≡ false → ((j : ℕ) → (j ≡ n → ⊥) → q j ≡ p j) → (a m : ℕ) (ns : List ℕ) → filter p (row_from a m) ≡ n ∷ ns → filter q (row_from a m) ≡ ns
 filter_first p q n qn other a zero ns e = absurd (cc)
 filter_first p q n qn other a (suc m) ns e = go (p a) refl e (filter_first p q n qn other (a + 1) m ns)
@@ -65,9 +65,6 @@ filter_first p q n qn other a (suc m) ns e = go (p a) refl e (filter_first p q n
       | inr apart ↦ let qa : q a ≡ false = other a apart ∙ is in rw qa (rec r)
     ]
 
-some_same : (m k : ℕ) → Some m ≡ Some k → m ≡ k
-some_same m k e = cc
-
 -- the number that is given belongs to transfer k
 module _ (l : Lane) (n k : ℕ) (bytes : List ℕ) (g : History) (sound : IsSound g) (mine : serial_of g n ≡ Some k) where
   other_number : (m : ℕ) → (m ≡ n → ⊥) → not ((n == m) || gave g m) ≡ not (gave g m)
@@ -81,7 +78,7 @@ module _ (l : Lane) (n k : ℕ) (bytes : List ℕ) (g : History) (sound : IsSoun
   left_other_span j (Some s) apart e =
       filter_outside (λ m. not (gave g m)) (λ m. not ((n == m) || gave g m)) s.0 (s.1 - s.0) n other_number
       (λ m lo hi same. let w = owns_span g sound j s e in
-      apart (some_same j k (sym (w.owns n (let sm : m ≡ n = same in omega arith) (let sm : m ≡ n = same in let ord : s.0 ≤ s.1 = w.in_order in omega arith)) ∙ mine)))
+      apart (same_Some j k (sym (w.owns n (let sm : m ≡ n = same in omega arith) (let sm : m ≡ n = same in let ord : s.0 ≤ s.1 = w.in_order in omega arith)) ∙ mine)))
 
   -- every other transfer has the same numbers left
   pub left_other : (j : ℕ) → (j ≡ k → ⊥) → left_of ((Gave l n, bytes) ∷ g) j ≡ left_of g j
@@ -113,7 +110,7 @@ module _ (l : Lane) (n k : ℕ) (bytes : List ℕ) (g : History) (sound : IsSoun
       let w = owns_span g sound j s e in
       let r = row_first (λ i. not (gave g i)) s.0 (s.1 - s.0) m (ap first f) in
       let owner : serial_of g m ≡ Some j = w.owns m r.from (let ord : s.0 ≤ s.1 = w.in_order in let hi : m < s.0 + (s.1 - s.0) = r.to in omega arith) in
-      let a : j + 1 ≡ top g = is_top g sound j m oj owner (not_true (gave g m) r.passes) in
+      let a : j + 1 ≡ top g = is_top g sound j m oj owner (not-true (gave g m) r.passes) in
       let b : k + 1 ≡ top g = is_top g sound k n o mine left in
       apart (omega arith)
 
@@ -131,7 +128,7 @@ module _ (l : Lane) (n k : ℕ) (bytes : List ℕ) (g : History) (sound : IsSoun
 
   -- after its last number no transfer is current
   pub current_none : opened g k ≡ true → gave g n ≡ false → left_of g k ≡ n ∷ [] → current ((Gave l n, bytes) ∷ g) ≡ None
-  current_none o left e = ap first (those_empty_below (λ j. opened g j && not (is_empty (left_of ((Gave l n, bytes) ∷ g) j))) (made g) (λ j h. elim (cases_eq j k) [
+  current_none o left e = ap first (those_empty (λ j. opened g j && not (is_empty (left_of ((Gave l n, bytes) ∷ g) j))) (made g) (λ j h. elim (cases_eq j k) [
     | inl same ↦ subst (λ i. (opened g i && not (is_empty (left_of ((Gave l n, bytes) ∷ g) i))) ≡ false) (sym same) (rw (o, left_here [] e) refl)
     | inr apart ↦ current_test [] o left e j apart
   ]))

@@ -1,8 +1,11 @@
 -- The drain ends, whatever fuel it is given from the bound on, and leaves a history that is done.
 use Rattle.un_journal.proofs.Landing.{LandLine, land_line}
-use Rattle.std.proofs.Common.{◌≡◌, ℕ, zero, suc, ◌+◌, ◌<◌, ◌≤◌, Bool, true, false, not, ◌&&◌, ◌||◌, ◌==◌, List, [], ◌∷◌, ◌++◌, length, Option, Some, None, refl, sym, ap, ◌∙◌, subst, arith, if◌then◌else◌, filter, reverse, append_assoc, append-nil, length-append}
-use Rattle.std.proofs.lemmas.Bool.{false≢true, eq-eqb, ne_eqb}
+use Rattle.std.proofs.Common.{◌≡◌, ℕ, zero, suc, ◌+◌, ◌<◌, ◌≤◌, Bool, true, false, not, ◌||◌, ◌==◌, List, [], ◌∷◌, ◌++◌, length, Option, Some, None, refl, sym, ap, ◌∙◌, subst, arith, if◌then◌else◌, filter, reverse, append_assoc, append-nil, length-append}
+use Rattle.std.proofs.lemmas.Bool.{and_right, false≢true, eq-eqb, ne_eqb}
 use Rattle.std.proofs.lemmas.Bool.Decides.{nat_tests}
+use Rattle.std.proofs.lemmas.Option.{same_Some, none-some}
+use Rattle.un_journal.proofs.Lists.{those_empty}
+use Rattle.un_frame.proofs.LaneLemmas.{same_lane-refl}
 use Rattle.un_frame.specs.declared.params.Lane.{Lane}
 use Rattle.un_frame.specs.declared.params.Lane.TheVariants.{Outward, Inward}
 use Rattle.un_frame.specs.Lanes.{same_lane}
@@ -17,12 +20,12 @@ use Rattle.un_journal.specs.Drain.{run, round, drain_in, drain, same_length, lin
 use Rattle.un_journal.specs.Done.{NoneFlies}
 use Rattle.un_journal.specs.Fits.{Act, Works, Controls, Fits, takes, refuses, waits_once, closes, begins_flight, cuts_queued, lands, fails, cuts_flight, comes_home, opens, gives, posts_one, marks, recalls_one, clears, settles, orders, orders_forced, Legal, IsDone, act_outcome, after_took}
 use Rattle.un_journal.proofs.Steps.{legal_good, ArePlain, is_plain, order_plain}
-use Rattle.un_journal.proofs.Unique.{fits_outcome, those_empty_below, Cons}
+use Rattle.un_journal.proofs.Unique.{fits_outcome, Cons}
 use Rattle.un_journal.proofs.Complete.{outcome_fits}
 use Rattle.un_journal.proofs.Going.{legal_run, legal_step, legal_drain_in}
 use Rattle.un_journal.proofs.Bound.{legal_bound, head_within}
 use Rattle.un_journal.proofs.Onto.{onto, reverse_onto, past_onto, filter_of}
-use Rattle.un_journal.proofs.Steps.{own_past, same_lane_same}
+use Rattle.un_journal.proofs.Steps.{own_past}
 use Rattle.un_journal.proofs.Unique.{those_first_is, cons_from}
 use Rattle.un_journal.proofs.Legal.{next_from, queued_waiting}
 
@@ -64,7 +67,7 @@ drain_extends (suc n) script h =
 longer : (h h' : History) → same_length h h' ≡ false → length h < length h'
 longer h h' e = grind (arith, nat_tests)
 
-no_longer : (h h' : History) → length h' ≤ length h → same_length h h' ≡ true
+pub no_longer : (h h' : History) → length h' ≤ length h → same_length h h' ≡ true
 no_longer h h' e = grind (arith, nat_tests)
 
 not_longer : (h h' : History) → same_length h h' ≡ true → length h' ≤ length h
@@ -131,7 +134,8 @@ empty_lines : (xs : History) → length xs ≡ 0 → xs ≡ []
 empty_lines [] e = refl
 empty_lines (x ∷ xs) e = absurd (omega arith)
 
-step_idle : (h xs : History) → length (h ++ xs) ≤ length h → xs ≡ []
+-- what begins with h and isn't longer is h
+pub step_idle : (h xs : History) → length (h ++ xs) ≤ length h → xs ≡ []
 step_idle h xs e = empty_lines xs (let l : length (h ++ xs) ≡ length h + length xs = length-append h xs in omega arith)
 
 all_idle : (script : Script) (h : History) (actions : List Action) → length (run script h actions) ≤ length h → AllIdle script h actions
@@ -176,15 +180,11 @@ abbrev NoFlights : History → Type 0
 NoFlights [] = Unit {0}
 NoFlights (e ∷ es) = (is_no_flight e ≡ true) × NoFlights es
 
-and_false : (b f : Bool) → f ≡ false → (not b && f) ≡ false
-and_false true f e = refl
-and_false false f e = e
-
 line_grounded : (e : Entry) (g : History) (k : ℕ) → is_no_flight e ≡ true → flies g k ≡ false → flies (e ∷ g) k ≡ false
 line_grounded (Flying l j, bytes) g k n w = absurd (false≢true n)
-line_grounded (Landed l j, bytes) g k n w = and_false (j == k) (flies g k) w
-line_grounded (Failed l j kind, bytes) g k n w = and_false (j == k) (flies g k) w
-line_grounded (Cut l j c, bytes) g k n w = and_false (j == k) (flies g k) w
+line_grounded (Landed l j, bytes) g k n w = and_right (not (j == k)) (flies g k) w
+line_grounded (Failed l j kind, bytes) g k n w = and_right (not (j == k)) (flies g k) w
+line_grounded (Cut l j c, bytes) g k n w = and_right (not (j == k)) (flies g k) w
 line_grounded (e, bytes) g k n w = w
 
 lines_grounded : (l : Lane) (lines older : History) → NoFlights lines → (k : ℕ) → flies (filter (concerns l) older) k ≡ false → flies (filter (concerns l) (onto lines older)) k ≡ false
@@ -251,34 +251,28 @@ abbrev taker : Act → Option Lane
 taker (Works (Work.Take l)) = Some l
 taker act = None
 
-same_some : (a b : Lane) → Some a ≡ Some b → a ≡ b
-same_some a b e = cc
-
-none_lane : (l : Lane) → None ≡ Some l → ⊥
-none_lane l e = cc
-
 take_case : (script : Script) (h lines : History) (act : Act) (l : Lane) → Legal script h → taker act ≡ Some l → Fits script h act lines → TakeCase script h l lines
 take_case script h lines act l legal t (begins_flight lane k a none e m ha p) =
-    subst (λ i. TakeCase script h i (bare (Flying lane k) ∷ [])) (same_some lane l t)
+    subst (λ i. TakeCase script h i (bare (Flying lane k) ∷ [])) (same_Some lane l t)
     (flew_one k (next_from (past lane h) k ((legal_good script h legal).sound lane) none (queued_waiting (phase_of script h) lane (past lane h) k e)).is_made refl)
-take_case script h lines act l legal t (cuts_queued lane k c none e m) = subst (λ i. TakeCase script h i (bare (Cut lane k c) ∷ [])) (same_some lane l t) (cut_one k c refl)
-take_case script h lines act l legal t (takes lane sender frame w e v home) = absurd (none_lane l t)
-take_case script h lines act l legal t (refuses lane sender frame why w e v n) = absurd (none_lane l t)
-take_case script h lines act l legal t (waits_once lane p) = absurd (none_lane l t)
-take_case script h lines act l legal t (closes lane b p n) = absurd (none_lane l t)
-take_case script h lines act l legal t (lands lane k f m p) = absurd (none_lane l t)
-take_case script h lines act l legal t (fails lane k kind f m p) = absurd (none_lane l t)
-take_case script h lines act l legal t (cuts_flight lane k c f m) = absurd (none_lane l t)
-take_case script h lines act l legal t (comes_home lane e) = absurd (none_lane l t)
-take_case script h lines act l legal t (opens lane k none e) = absurd (none_lane l t)
-take_case script h lines act l legal t (gives lane k n c e) = absurd (none_lane l t)
-take_case script h lines act l legal t (posts_one lane a r) = absurd (none_lane l t)
-take_case script h lines act l legal t (marks lane k s e) = absurd (none_lane l t)
-take_case script h lines act l legal t (recalls_one lane s e p) = absurd (none_lane l t)
-take_case script h lines act l legal t (clears lane a e) = absurd (none_lane l t)
-take_case script h lines act l legal t (settles s e) = absurd (none_lane l t)
-take_case script h lines act l legal t (orders force due e p d z) = absurd (none_lane l t)
-take_case script h lines act l legal t (orders_forced due e p d q z) = absurd (none_lane l t)
+take_case script h lines act l legal t (cuts_queued lane k c none e m) = subst (λ i. TakeCase script h i (bare (Cut lane k c) ∷ [])) (same_Some lane l t) (cut_one k c refl)
+take_case script h lines act l legal t (takes lane sender frame w e v home) = absurd (none-some l t)
+take_case script h lines act l legal t (refuses lane sender frame why w e v n) = absurd (none-some l t)
+take_case script h lines act l legal t (waits_once lane p) = absurd (none-some l t)
+take_case script h lines act l legal t (closes lane b p n) = absurd (none-some l t)
+take_case script h lines act l legal t (lands lane k f m p) = absurd (none-some l t)
+take_case script h lines act l legal t (fails lane k kind f m p) = absurd (none-some l t)
+take_case script h lines act l legal t (cuts_flight lane k c f m) = absurd (none-some l t)
+take_case script h lines act l legal t (comes_home lane e) = absurd (none-some l t)
+take_case script h lines act l legal t (opens lane k none e) = absurd (none-some l t)
+take_case script h lines act l legal t (gives lane k n c e) = absurd (none-some l t)
+take_case script h lines act l legal t (posts_one lane a r) = absurd (none-some l t)
+take_case script h lines act l legal t (marks lane k s e) = absurd (none-some l t)
+take_case script h lines act l legal t (recalls_one lane s e p) = absurd (none-some l t)
+take_case script h lines act l legal t (clears lane a e) = absurd (none-some l t)
+take_case script h lines act l legal t (settles s e) = absurd (none-some l t)
+take_case script h lines act l legal t (orders force due e p d z) = absurd (none-some l t)
+take_case script h lines act l legal t (orders_forced due e p d q z) = absurd (none-some l t)
 
 land_from_list : (script : Script) (l : Lane) (g : History) (k : ℕ) (xs ks : List ℕ) → xs ≡ k ∷ ks → land_from script l g xs ≡ land_marked l (planned script l k) k (mark g k)
 land_from_list script l g k xs ks e = rw e refl
@@ -286,7 +280,7 @@ land_from_list script l g k xs ks e = rw e refl
 -- the line of a landing right after the flight
 landing_line : (script : Script) (h : History) (l : Lane) (k : ℕ) → k < made (past l h) → NoneFlies h → LandLine l k (work script (h ++ bare (Flying l k) ∷ []) (Work.Land l))
 landing_line script h l k low w =
-    subst (LandLine l k) (sym (ap (λ g. land_flight script l g) (own_past h (bare (Flying l k)) l (same_lane_same l)) ∙ land_from_list script l (bare (Flying l k) ∷ past l h) k (flying (bare (Flying l k) ∷ past l h)) c.rest c.is))
+    subst (LandLine l k) (sym (ap (λ g. land_flight script l g) (own_past h (bare (Flying l k)) l (same_lane-refl l)) ∙ land_from_list script l (bare (Flying l k) ∷ past l h) k (flying (bare (Flying l k) ∷ past l h)) c.rest c.is))
     (land_line script l k (mark (bare (Flying l k) ∷ past l h) k))
   where
     test : ℕ → Bool
@@ -313,7 +307,7 @@ move_from script h l xs w (cut_one k c e) =
     grounds = grounded_more h (bare (Cut l k c) ∷ []) (refl, tt) w
 
     idle : lines_in (work script (h ++ bare (Cut l k c) ∷ []) (Work.Land l)) ≡ []
-    idle = ap (λ ks. lines_in (land_from script l (past l (h ++ bare (Cut l k c) ∷ [])) ks)) (those_empty_below (flies (past l (h ++ bare (Cut l k c) ∷ []))) (made (past l (h ++ bare (Cut l k c) ∷ []))) (λ j i. grounds l j))
+    idle = ap (λ ks. lines_in (land_from script l (past l (h ++ bare (Cut l k c) ∷ [])) ks)) (those_empty (flies (past l (h ++ bare (Cut l k c) ∷ []))) (made (past l (h ++ bare (Cut l k c) ∷ []))) (λ j i. grounds l j))
 move_from script h l xs w (flew_one k low e) =
     subst (λ ys. NoneFlies (h ++ (ys ++ lines_in (work script (h ++ ys) (Work.Land l))))) (sym e)
     (let r = landing_line script h l k low w in
@@ -390,7 +384,7 @@ four_feeds script Outward = omega arith
 four_feeds script Inward = omega arith
 
 pub land_idle : (script : Script) (h : History) (l : Lane) → NoneFlies h → lines_in (work script h (Work.Land l)) ≡ []
-land_idle script h l w = ap (λ ks. lines_in (land_from script l (past l h) ks)) (those_empty_below (flies (past l h)) (made (past l h)) (λ j i. w l j))
+land_idle script h l w = ap (λ ks. lines_in (land_from script l (past l h) ks)) (those_empty (flies (past l h)) (made (past l h)) (λ j i. w l j))
 
 module _ (script : Script) (h : History) (legal : Legal script h) (w : NoneFlies h) (idle : AllIdle script h round) (last : step_of script h (Action.Control true) ≡ []) where
   offer_idle : (l : Lane) (s : ℕ) → s < 4 → lines_in (work script h (Work.Offer l s)) ≡ []

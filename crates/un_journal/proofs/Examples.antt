@@ -1,6 +1,7 @@
 -- Whole runs, computed from the definitions: what the drain and single calls write and answer.
 use Rattle.std.specs.Prelude.{◌≡◌, refl, ℕ, ◌-◌, true, false, List, [], ◌∷◌, ◌++◌, map, take, replicate, ◌⊎◌, ◌==◌, if◌then◌else◌, length}
 use Rattle.std.proofs.Common.{inl, inr}
+use Rattle.un_frame.proofs.ExampleFrame.{header}
 use Rattle.un_frame.specs.declared.params.Lane.TheVariants.{Outward, Inward}
 use Rattle.un_frame.specs.declared.params.Class.{Class}
 use Rattle.un_frame.specs.declared.params.Params.{Params}
@@ -25,12 +26,9 @@ use Rattle.un_journal.specs.Drain.{drain}
 
 -- FRAMES, SCRIPTS, CALLS
 
-abbrev frame_head : List ℕ
-frame_head = 2 ∷ 0 ∷ 0 ∷ 0 ∷ 0 ∷ 2 ∷ 2 ∷ 0 ∷ 0 ∷ 0 ∷ 0 ∷ 1 ∷ 8 ∷ 0 ∷ []
-
 -- a frame of so many bytes: an Ethernet header and zeros
 abbrev frame_of : ℕ → Frame
-frame_of n = take n (frame_head ++ replicate (n - 14) 0)
+frame_of n = take n (header ++ replicate (n - 14) 0)
 
 -- parameters with these pools: of requests outward to transmit and to receive, and inward to transmit and to receive
 abbrev params_of : Class → ℕ → ℕ → ℕ → ℕ → ℕ → Params

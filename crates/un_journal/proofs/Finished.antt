@@ -2,8 +2,11 @@
 use Rattle.un_journal.proofs.Landing.{land_line}
 use Rattle.std.proofs.Common.{◌≡◌, ℕ, zero, suc, ◌+◌, ◌<◌, ◌≤◌, Bool, true, false, not, ◌&&◌, ◌||◌, List, [], ◌∷◌, ◌++◌, length, Option, Some, None, inl, inr, refl, sym, ap, ◌∙◌, arith, if◌then◌else◌, reverse, slice_get, is_some}
 use Rattle.std.specs.List.{list_all}
-use Rattle.std.proofs.lemmas.Bool.{false≢true, eq-eqb, cases_lt, or_left, or_right, and_parts}
+use Rattle.std.proofs.lemmas.Bool.{false≢true, eq-eqb, cases_lt, or_left, or_right, and_parts, not-true}
 use Rattle.std.proofs.lemmas.Option.{slice_get_within}
+use Rattle.un_facts.proofs.Booleans.{and_not}
+use Rattle.un_facts.specs.Lists.{is_empty}
+use Rattle.un_facts.specs.Numbers.{one_if}
 use Rattle.un_frame.specs.declared.params.Lane.{Lane}
 use Rattle.un_frame.specs.declared.params.Lane.TheVariants.{Outward, Inward}
 use Rattle.un_frame.specs.declared.kinds.Phase.{Phase}
@@ -11,38 +14,31 @@ use Rattle.un_frame.specs.declared.kinds.Phase.TheVariants.{Up, Asleep, Stopping
 use Rattle.un_frame.specs.declared.kinds.Verdict.{Verdict}
 use Rattle.un_frame.specs.declared.kinds.Verdict.TheVariants.{Take, Short, Long, Filtered}
 use Rattle.un_frame.specs.declared.params.Params.{Params}
-use Rattle.un_frame.specs.Lanes.{packs}
+use Rattle.un_frame.specs.Lanes.{packs, tx_size, rx_size}
 use Rattle.un_frame.specs.Verdict.{verdict_of}
 use Rattle.un_journal.specs.declared.lines.Line.{Line}
 use Rattle.un_journal.specs.declared.controls.Control.{Control as Order}
 use Rattle.un_journal.specs.declared.controls.Due.{Due}
-use Rattle.un_journal.specs.Script.{Script, Frame, tx_size, rx_size}
-use Rattle.un_journal.specs.History.{History, past, first, taken, made, cover, built, took_last, posted, flies, flying, waits, waiting, ended, landed, failed, was_cut, opened, gave, arrived, current, left_of, is_empty, delivered, mark, returned, halted, serial_of, dropped, for_serial}
-use Rattle.un_journal.specs.Lookup.{phase_of, works, is_awake, is_asleep, is_stopping, is_leaving, controls_done, feed_head, tx_home, rx_home, offer_needs_home, tick_needs_home, pending, queued, unmarked, span_after_took, block_open}
+use Rattle.un_journal.specs.Script.{Script, Frame}
+use Rattle.un_journal.specs.History.{History, past, first, taken, made, cover, built, took_last, posted, flies, flying, waits, waiting, ended, landed, failed, was_cut, opened, gave, arrived, current, left_of, delivered, mark, returned, halted, serial_of, dropped, for_serial, ends}
+use Rattle.un_journal.specs.Lookup.{phase_of, works, is_awake, is_asleep, is_stopping, is_leaving, controls_done, feed_head, tx_home, rx_home, offer_needs_home, tick_needs_home, pending, queued, unmarked, span_after_took, block_open, claim}
 use Rattle.un_journal.specs.LaneSteps.{Outcome, Writes, Answers}
 use Rattle.un_journal.specs.Step.{Work, work, is_still, lane_works, quiet, all_home, hinders, is_due, land_from}
 use Rattle.un_journal.proofs.Ranges.{HavePools}
 use Rattle.un_journal.specs.Done.{IsSpread, IsGivenOut, IsStuck, IsFinished, is_gone}
-use Rattle.un_journal.specs.Sums.{claim}
 use Rattle.un_journal.specs.Fits.{Act, Works, Controls, Fits, takes, refuses, waits_once, closes, begins_flight, cuts_queued, comes_home, opens, gives, posts_one, marks, recalls_one, clears, settles, orders, orders_forced, Legal, IsDone, after_took}
 use Rattle.un_journal.proofs.Status.{status_of}
 use Rattle.un_journal.proofs.Numbers.{owned}
-use Rattle.un_journal.proofs.Order.{ends, is_up, in_order}
+use Rattle.un_journal.proofs.Order.{is_up, in_order}
 use Rattle.un_journal.proofs.Given.{cover_below}
-use Rattle.un_journal.proofs.Lists.{those_first, those_none, first_none}
-use Rattle.un_journal.proofs.Legal.{none_flies, landed_made, whole_gave, has_span, not_true}
+use Rattle.un_journal.proofs.Lists.{those_first, those_none, first_none, those_empty}
+use Rattle.un_journal.proofs.Legal.{none_flies, landed_made, whole_gave, has_span}
 use Rattle.un_journal.proofs.Steps.{legal_good}
 use Rattle.un_journal.proofs.Complete.{outcome_fits}
 use Rattle.un_journal.proofs.Rules.{AllRuled, legal_ruled}
-use Rattle.un_journal.proofs.Homes.{HomeSums, legal_sums, those_same, landings, landed_count, one_if, ends_made, returned_ends, ended_below, below_ended}
+use Rattle.un_journal.proofs.Homes.{HomeSums, legal_sums, those_same, landings, landed_count, ends_made, returned_ends, ended_below, below_ended}
 use Rattle.un_journal.proofs.Calm.{CalmLane, legal_calm}
 use Rattle.un_journal.specs.Sound.{IsSound}
-use Rattle.un_journal.proofs.Unique.{those_empty_below}
-
-and_not : (l o : Bool) → (l && not o) ≡ false → l ≡ true → o ≡ true
-and_not true true e h = refl
-and_not true false e h = absurd (false≢true (sym e))
-and_not false o e h = absurd (false≢true h)
 
 pub claim_none : (params : Params) (l : Lane) (g : History) → built g ≡ 0 → claim params l g ≡ 0
 claim_none params Outward g e = rw e (go (packs params.class Outward))
@@ -85,7 +81,7 @@ phase_case Away = in_gone refl refl refl (λ l g. refl)
 
 -- no transfer waits where none is left
 waits_open : (g : History) (k : ℕ) → waits g k ≡ true → ended g k ≡ false
-waits_open g k w = not_true (ended g k) (and_parts (not (flies g k)) (not (ended g k)) w).1
+waits_open g k w = not-true (ended g k) (and_parts (not (flies g k)) (not (ended g k)) w).1
 
 -- every transfer is over: every datagram of the cover is at the peer or lost
 over_spread : (l x c v : Bool) → (l || x || c) ≡ true → (l ≡ true → v ≡ true) → (v || (x || c)) ≡ true
@@ -367,7 +363,7 @@ module _ (script : Script) (h : History) (pools : HavePools script.params) (lega
       let high : ends (past l h) + one_if (is_up (past l h)) ≤ made (past l h) = ends_made (past l h) (sound l) in omega arith
 
   over_waiting : (l : Lane) → ends (past l h) ≡ made (past l h) → waiting (past l h) ≡ []
-  over_waiting l e = those_empty_below (waits (past l h)) (made (past l h)) (λ j i. rw (grounded l j, below_ended (past l h) (sound l) j (omega arith)) refl)
+  over_waiting l e = those_empty (waits (past l h)) (made (past l h)) (λ j i. rw (grounded l j, below_ended (past l h) (sound l) j (omega arith)) refl)
 
   -- CONTROLS
 

@@ -1,21 +1,20 @@
 -- The cut lines that bring a receive request home are those of the transfers that flew, and every receive request is somewhere.
 use Rattle.std.proofs.Common.{◌≡◌, ℕ, ◌+◌, Bool, true, false, not, ◌&&◌, ◌||◌, ◌==◌, [], ◌∷◌, length, ◌⊎◌, inl, inr, refl, sym, ap, ◌∙◌, subst, arith}
-use Rattle.std.proofs.lemmas.Bool.{false≢true, eq-eqb, ne_eqb, and_parts, or_left, or_right}
+use Rattle.std.proofs.lemmas.Bool.{false≢true, eq-eqb, ne_eqb, and_parts, or_left, or_right, not-true}
+use Rattle.un_facts.specs.Numbers.{one_if}
+use Rattle.un_frame.specs.Lanes.{rx_size}
 use Rattle.un_frame.specs.declared.params.Lane.{Lane}
 use Rattle.un_frame.specs.declared.params.Params.{Params}
-use Rattle.un_journal.specs.Script.{rx_size}
 use Rattle.un_journal.specs.declared.lines.Line.TheVariants.{Flying, Cut}
-use Rattle.un_journal.specs.History.{History, made, flies, flown, was_cut, flight_cuts, flying, posted, delivered, more_if}
-use Rattle.un_journal.specs.Lookup.{rx_home}
+use Rattle.un_journal.specs.History.{History, made, flies, flown, was_cut, flight_cuts, flying, posted, delivered, more_if, ends}
+use Rattle.un_journal.specs.Lookup.{rx_home, landings, cuts_of}
 use Rattle.un_journal.specs.Sound.{IsSound, IsNext}
-use Rattle.un_journal.specs.Sums.{landings, cuts_of}
-use Rattle.un_journal.proofs.Order.{ends, is_up, in_order, flight_is}
+use Rattle.un_journal.proofs.Order.{is_up, in_order, flight_is}
 use Rattle.un_journal.proofs.Status.{status_of}
 use Rattle.un_journal.proofs.BaseWords.{base_words, flies_flew}
-use Rattle.un_journal.proofs.Unique.{those_empty_below}
+use Rattle.un_journal.proofs.Lists.{those_empty}
 use Rattle.un_journal.proofs.Delivery.{those_count}
-use Rattle.un_journal.proofs.Homes.{HomeSums, one_if, landings as landed_lines, landed_count, up_of, flying_made}
-use Rattle.un_journal.proofs.Legal.{not_true}
+use Rattle.un_journal.proofs.Homes.{HomeSums, landings as landed_lines, landed_count, up_of, flying_made}
 
 -- CUT LINES OF FLIGHTS
 
@@ -28,7 +27,7 @@ cuts_same p q (e ∷ g) same = cuts_same p q g same
 
 -- a transfer that waits hasn't flown and wasn't cut
 fresh_next : (v c : Bool) → (not v && not c) ≡ true → (v ≡ false) × (c ≡ false)
-fresh_next v c e = let r = and_parts (not v) (not c) e in (not_true v r.0, not_true c r.1)
+fresh_next v c e = let r = and_parts (not v) (not c) e in (not-true v r.0, not-true c r.1)
 
 next_fresh : (g : History) → IsSound g → (k : ℕ) → IsNext g k → (flown g k ≡ false) × (was_cut g k ≡ false)
 next_fresh g sound k n = fresh_next (flown g k) (was_cut g k) (sym (base_words g sound k).1 ∙ n.is_waiting)
@@ -55,14 +54,14 @@ flying_count g sound = go (is_up g) refl
     none k = false
 
     go : (b : Bool) → is_up g ≡ b → length (flying g) ≡ one_if b
-    go false e = ap length (those_empty_below (flies g) (made g) (λ k h. not_flying k (flies g k) refl))
+    go false e = ap length (those_empty (flies g) (made g) (λ k h. not_flying k (flies g k) refl))
       where
         not_flying : (k : ℕ) (b : Bool) → flies g k ≡ b → b ≡ false
         not_flying k false f = refl
         not_flying k true f = absurd (false≢true (sym e ∙ up_of g sound k f))
     go true e =
         those_count none (flies g) (ends g) refl (λ k apart. not_other k apart (flies g k) refl) (made g) (flying_made g sound (ends g) here)
-        ∙ rw (ap length (those_empty_below none (made g) (λ k h. refl)), here) refl
+        ∙ rw (ap length (those_empty none (made g) (λ k h. refl)), here) refl
       where
         here : flies g (ends g) ≡ true
         here = (status_of g sound (ends g)).flies_is ∙ (in_order g sound (ends g)).aloft_at e refl

@@ -1,9 +1,10 @@
 -- What a transfer's bytes are made of, and that what is given is what was accepted.
 use Rattle.std.proofs.Common.{◌≡◌, ℕ, zero, suc, ◌+◌, ◌-◌, ◌<◌, ◌≤◌, Bool, true, false, not, ◌&&◌, ◌==◌, List, [], ◌∷◌, ◌++◌, map, length, Option, Some, None, refl, sym, ap, ◌∙◌, subst, arith, if◌then◌else◌, filter, reverse, slice_get, nat_lt, take, drop, unwrap_or, get_or, length-append}
 use Rattle.std.proofs.lemmas.Bool.{false≢true, eqb-true, ltb-true, ltb-false}
-use Rattle.std.proofs.lemmas.Option.{slice_get-get_or}
+use Rattle.std.proofs.lemmas.Option.{slice_get-get_or, same_Some}
 use Rattle.std.proofs.lemmas.List.{take-append-le, drop-append-le, length-drop, length-take-le, drop_all}
 use Rattle.std.proofs.Math.Seq.{take-length, take-append_seam, drop-append_seam}
+use Rattle.un_frame.proofs.LaneLemmas.{same_lane-is}
 use Rattle.un_frame.specs.declared.params.Lane.{Lane}
 use Rattle.un_frame.specs.declared.params.Lane.TheVariants.{Outward, Inward}
 use Rattle.un_frame.specs.declared.kinds.Phase.{Phase}
@@ -28,7 +29,7 @@ use Rattle.un_journal.specs.Step.{made_if, order_lines, cut_each, marked_each, r
 use Rattle.un_journal.specs.Bytes.{AreDatagrams}
 use Rattle.un_journal.proofs.Transfers.{FramesFit, AreFrames, WireHolds, fit_more, part_is}
 use Rattle.un_journal.specs.Fits.{Act, Fits, takes, refuses, waits_once, closes, begins_flight, cuts_queued, lands, fails, cuts_flight, comes_home, opens, gives, posts_one, marks, recalls_one, clears, settles, orders, orders_forced, Legal, begins, goes_on, after_took}
-use Rattle.un_journal.proofs.Lists.{row_first, same_lane_true}
+use Rattle.un_journal.proofs.Lists.{row_first}
 use Rattle.un_journal.proofs.Given.{cover_below}
 use Rattle.un_journal.proofs.Steps.{Good, legal_good}
 use Rattle.un_journal.proofs.Onto.{onto, onto_append, past_onto, AllOf, filter_of}
@@ -84,9 +85,6 @@ record Closing (params : Params) (ds : List Frame) (a : ℕ) (s : ℕ × ℕ) : 
   pub is_by : s.1 ≤ length ds
   pub fit : FramesFit params (take (s.1 - s.0) (drop s.0 ds))
   pub rest : FramesFit params (drop s.1 ds)
-
-same_some : (x y : ℕ × ℕ) → Some x ≡ Some y → x ≡ y
-same_some x y e = cc
 
 module _ (params : Params) (ds : List Frame) (x : Frame) (a n : ℕ) (len : n ≡ length ds) (low : a ≤ n) (alone : FramesFit params (x ∷ [])) (before : FramesFit params (drop a ds)) where
   all : List Frame
@@ -154,10 +152,10 @@ module _ (params : Params) (ds : List Frame) (x : Frame) (a n : ℕ) (len : n �
 
   closed_by : (B V W lim : Bool) → (B ≡ true → builds_blocks params.class ≡ true) → nat_lt a n ≡ V → frames_fit params (drop a (ds ++ x ∷ [])) ≡ W → (B ≡ false → a ≡ n) → (s : ℕ × ℕ)
       → (if not B then Some (n, n + 1) else (if V && not W then Some (a, n) else (if lim then Some (a, n + 1) else None))) ≡ Some s → Closing params (ds ++ x ∷ []) a s
-  closed_by false V W lim b v w whole s e = subst (Closing params (ds ++ x ∷ []) a) (same_some _ s e) (close_alone (whole refl))
-  closed_by true true false lim b v w whole s e = subst (Closing params (ds ++ x ∷ []) a) (same_some _ s e) (close_before (ltb-true a n v))
-  closed_by true true true true b v w whole s e = subst (Closing params (ds ++ x ∷ []) a) (same_some _ s e) (close_all (fit_either (b refl) true true v w refl))
-  closed_by true false W true b v w whole s e = subst (Closing params (ds ++ x ∷ []) a) (same_some _ s e) (close_all (fit_either (b refl) false W v w refl))
+  closed_by false V W lim b v w whole s e = subst (Closing params (ds ++ x ∷ []) a) (same_Some _ s e) (close_alone (whole refl))
+  closed_by true true false lim b v w whole s e = subst (Closing params (ds ++ x ∷ []) a) (same_Some _ s e) (close_before (ltb-true a n v))
+  closed_by true true true true b v w whole s e = subst (Closing params (ds ++ x ∷ []) a) (same_Some _ s e) (close_all (fit_either (b refl) true true v w refl))
+  closed_by true false W true b v w whole s e = subst (Closing params (ds ++ x ∷ []) a) (same_Some _ s e) (close_all (fit_either (b refl) false W v w refl))
   closed_by true true true false b v w whole s e = absurd (cc)
   closed_by true false W false b v w whole s e = absurd (cc)
 
@@ -230,7 +228,7 @@ kept_took script l l' s bytes frame g e v w =
 
 told_bytes : (script : Script) (l : Lane) (j k : ℕ) (s i : ℕ × ℕ) (bytes : List ℕ) (g : History) → (v : Bool) → (j == k) ≡ v → WellMade script.params (datagrams script l g) bytes j s
     → (span g k ≡ Some i → WellMade script.params (datagrams script l g) (made_bytes g k) k i) → told_if v s (span g k) ≡ Some i → WellMade script.params (datagrams script l g) (if v then bytes else made_bytes g k) k i
-told_bytes script l j k s i bytes g true v w old e = subst (λ q. WellMade script.params (datagrams script l g) bytes k q) (same_some s i e) (subst (λ q. WellMade script.params (datagrams script l g) bytes q s) (eqb-true j k v) w)
+told_bytes script l j k s i bytes g true v w old e = subst (λ q. WellMade script.params (datagrams script l g) bytes k q) (same_Some s i e) (subst (λ q. WellMade script.params (datagrams script l g) bytes q s) (eqb-true j k v) w)
 told_bytes script l j k s i bytes g false v w old e = old e
 
 kept_made : (script : Script) (l l' : Lane) (s : ℕ × ℕ) (bytes : List ℕ) (g : History) → WellMade script.params (datagrams script l g) bytes (made g) s → Kept script l g → Kept script l ((Made l' (made g) s.0 s.1, bytes) ∷ g)
@@ -394,7 +392,7 @@ formed_order script Order.Unplug l c phase g w =
 
 -- lines of one lane
 lane_formed : (script : Script) (lane l : Lane) (lines h : History) → AllOf lane lines → (l ≡ lane → Formed script l (onto lines (past l h))) → Formed script l (past l h) → Formed script l (past l (h ++ lines))
-lane_formed script lane l lines h o own w = rw (past_onto l h lines, filter_of lane l lines o) (go (same_lane l lane) (same_lane_true l lane))
+lane_formed script lane l lines h o own w = rw (past_onto l h lines, filter_of lane l lines o) (go (same_lane l lane) (same_lane-is l lane))
   where
     go : (b : Bool) → (b ≡ true → l ≡ lane) → Formed script l (onto (if b then lines else []) (past l h))
     go true same = own (same refl)

@@ -1,13 +1,15 @@
 -- In a sound lane the numbers that are given rise strictly and are below the number of datagrams accepted.
 use Rattle.std.proofs.Common.{◌≡◌, ℕ, ◌+◌, ◌<◌, ◌≤◌, Bool, true, false, ◌||◌, ◌==◌, List, [], ◌∷◌, ◌++◌, Option, Some, None, inl, inr, refl, sym, ap, ◌∙◌, arith}
 use Rattle.std.proofs.lemmas.Bool.{false≢true, eqb-true, eqb-false, eq-eqb, cases_lt, cases_order, or_cases, or_right, or_left, true_from_ne_false}
+use Rattle.std.proofs.lemmas.Option.{same_Some}
+use Rattle.un_facts.specs.Numbers.{within}
 use Rattle.un_journal.specs.declared.lines.Line.TheVariants.{Took, Made, Landed, Failed, Cut, Dropped, Opened, Gave}
-use Rattle.un_journal.specs.History.{History, taken, made, cover, flies, landed, opened, gave, given, serial_of, within, told_if}
+use Rattle.un_journal.specs.History.{History, taken, made, cover, flies, landed, opened, gave, given, serial_of, told_if, ends}
 use Rattle.un_journal.specs.Sound.{IsSound, IsNextSpan, IsFirstArrived, IsNextNumber}
 use Rattle.un_journal.specs.Places.{IsRising, IsBelowAll, IsAllBelow}
 use Rattle.un_journal.proofs.Status.{Status, Quiet, Aloft, Arrived, Faulted, Severed, status, status_of, is_arrived}
 use Rattle.un_journal.proofs.Numbers.{owned, within_true, is_some_from}
-use Rattle.un_journal.proofs.Order.{ends, is_over, in_order, flight_is}
+use Rattle.un_journal.proofs.Order.{is_over, in_order, flight_is}
 
 -- one more than the last opened serial, and than the last given number
 abbrev pub top : History → ℕ
@@ -90,9 +92,6 @@ opened_below g sound k e = elim (cases_lt k (top g)) [ inl h ↦ h | inr h ↦ a
 
 -- SPANS IN ORDER
 
-some_same : (m k : ℕ) → Some m ≡ Some k → m ≡ k
-some_same m k e = cc
-
 pub owner_below : (g : History) → IsSound g → (n k : ℕ) → serial_of g n ≡ Some k → n < cover g
 owner_below g sound n k e =
     elim (cases_lt n (cover g)) [ inl h ↦ h | inr h ↦ absurd (false≢true (sym ((owned g sound n).above h).0 ∙ is_some_from (serial_of g n) k e)) ]
@@ -103,7 +102,7 @@ pub data Made_now (v : Bool) (j : ℕ) (o : Option ℕ) (k : ℕ) : Type 0 where
   is_old : v ≡ false → o ≡ Some k → Made_now v j o k
 
 pub told_cases : (v : Bool) (j : ℕ) (o : Option ℕ) (k : ℕ) → told_if v j o ≡ Some k → Made_now v j o k
-told_cases true j o k e = is_new refl (some_same j k e)
+told_cases true j o k e = is_new refl (same_Some j k e)
 told_cases false j o k e = is_old refl e
 
 abbrev pub InSpans : History → Type 0

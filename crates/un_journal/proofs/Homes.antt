@@ -1,25 +1,27 @@
 -- The sums of a lane: every request is at home or out, and none is counted twice.
 use Rattle.std.proofs.Common.{◌≡◌, ℕ, zero, suc, ◌+◌, ◌-◌, ◌<◌, ◌≤◌, Bool, true, false, not, ◌&&◌, ◌||◌, ◌==◌, List, [], ◌∷◌, length, ◌⊎◌, inl, inr, refl, sym, ap, ◌∙◌, subst, arith, if◌then◌else◌, filter, reverse, nat_lt, length-append}
-use Rattle.std.proofs.lemmas.Bool.{false≢true, eq-eqb, ne_eqb, cases_lt, and_parts, or_right}
+use Rattle.std.proofs.lemmas.Bool.{false≢true, eq-eqb, ne_eqb, cases_lt, and_parts, or_right, and_from}
+use Rattle.un_facts.proofs.Booleans.{and_false}
 use Rattle.std.proofs.lemmas.Bool.Decides.{nat_tests}
+use Rattle.un_journal.proofs.Lists.{those_empty}
+use Rattle.un_facts.specs.Lists.{is_empty}
+use Rattle.un_facts.specs.Numbers.{one_if}
 use Rattle.un_frame.specs.declared.params.Lane.{Lane}
 use Rattle.un_frame.specs.declared.params.Lane.TheVariants.{Outward, Inward}
 use Rattle.un_frame.specs.declared.kinds.Phase.{Phase}
 use Rattle.un_frame.specs.declared.params.Params.{Params}
-use Rattle.un_frame.specs.Lanes.{packs}
+use Rattle.un_frame.specs.Lanes.{packs, tx_size, rx_size}
 use Rattle.un_journal.specs.declared.lines.Line.TheVariants.{Took, Made, Posted, Flying, Landed, Failed, Cut, Dropped, TxHome, Gave, Recalled}
-use Rattle.un_journal.specs.Script.{Script, tx_size, rx_size}
-use Rattle.un_journal.specs.History.{Entry, History, past, concerns, those, taken, made, cover, took_last, posts, recalls, flights, failures, flight_cuts, posted, flies, ended, landed, failed, was_cut, gave, span, span_numbers, left_of, is_empty, delivered, returned, more_if}
-use Rattle.un_journal.specs.Lookup.{phase_after, block_claims, tx_home, rx_home}
+use Rattle.un_journal.specs.Script.{Script}
+use Rattle.un_journal.specs.History.{Entry, History, past, concerns, those, taken, made, cover, took_last, posts, recalls, flights, failures, flight_cuts, posted, flies, ended, landed, failed, was_cut, gave, span, span_numbers, left_of, delivered, returned, more_if, ends}
+use Rattle.un_journal.specs.Lookup.{phase_after, block_claims, tx_home, rx_home, claim, rx_back}
 use Rattle.un_journal.specs.Step.{all_home, away}
-use Rattle.un_journal.specs.Sums.{claim, rx_back}
 use Rattle.un_journal.specs.Sound.{IsSound, IsNext}
 use Rattle.un_journal.specs.Fits.{Legal}
 use Rattle.un_journal.proofs.Status.{Status, Quiet, Aloft, Arrived, Faulted, Severed, status, status_of, is_aloft, is_arrived, is_faulted, is_severed}
-use Rattle.un_journal.proofs.Order.{ends, is_up, is_over, in_order, none_up}
+use Rattle.un_journal.proofs.Order.{is_up, is_over, in_order, none_up}
 use Rattle.un_journal.proofs.Legal.{fresh, quiet_grounded}
 use Rattle.un_journal.proofs.Steps.{legal_good}
-use Rattle.un_journal.proofs.Unique.{those_empty_below}
 use Rattle.un_journal.proofs.Delivery.{those_count}
 use Rattle.un_journal.proofs.Rules.{LaneRule, AllRuled, legal_ruled}
 
@@ -69,10 +71,6 @@ landings (e ∷ g) = landings g
 pub up_of : (g : History) → IsSound g → (k : ℕ) → flies g k ≡ true → is_up g ≡ true
 up_of g sound k f = ((in_order g sound k).aloft (sym (status_of g sound k).flies_is ∙ f)).1
 
-abbrev pub one_if : Bool → ℕ
-one_if true = 1
-one_if false = 0
-
 -- each flight landed, failed, was cut or is up
 pub flight_sum : (g : History) → IsSound g → flights g ≡ landings g + failures g + flight_cuts g + one_if (is_up g)
 flight_sum [] sound = refl
@@ -109,7 +107,7 @@ flying_made g sound k f =
     elim (cases_lt k (made g)) [ inl h ↦ h | inr h ↦ absurd (false≢true (sym (quiet_grounded g sound k (fresh g sound k h)) ∙ f)) ]
 
 pub landed_all : (g : History) → IsSound g → (n : ℕ) → made g ≤ n → length (those (landed g) n) ≡ landings g
-landed_all [] sound n h = rw (those_empty_below (λ k. false) n (λ j i. refl)) refl
+landed_all [] sound n h = rw (those_empty (λ k. false) n (λ j i. refl)) refl
 landed_all ((Made l j a b, bytes) ∷ g) sound n h = landed_all g sound.1 n (omega arith)
 landed_all ((Landed l j, bytes) ∷ g) sound n h =
     those_count (landed g) (λ k. j == k || landed g k) j (flying_not_landed g sound.1 j sound.0)
@@ -179,21 +177,16 @@ made_pays after before m s r free (inl e) h = rw free (let w : m + (if true then
 made_pays after true m s r free (inr e) h = rw free (omega arith)
 made_pays after false m s r free (inr e) h = rw free (let some : 0 < s + r - (m + 0) = e in omega arith)
 
-and_false : (a b : Bool) → (a && b && false) ≡ false
-and_false true true = refl
-and_false true false = refl
-and_false false b = refl
-
 drop_claims : (blocks last : Bool) (t a b c : ℕ) → a ≡ c → a < b → (blocks && nat_lt 0 (t - b) && last) ≡ true → (blocks && nat_lt 0 (t - c) && last) ≡ false → ⊥
 drop_claims blocks last t a b c same some after before = grind (arith, nat_tests)
 
 pub out_sum : (script : Script) (g : History) → IsSound g → AllLane script Outward g → made g + claim script.params Outward g ≤ tx_size script.params Outward + returned g
-out_sum script [] sound all = rw (and_false (packs script.params.class Outward) (nat_lt 0 0)) (omega arith)
+out_sum script [] sound all = rw (and_false (packs script.params.class Outward && nat_lt 0 0)) (omega arith)
 out_sum script ((Took l s, bytes) ∷ g) sound all =
     claim_pays (block_claims script.params Outward ((Took l s, bytes) ∷ g)) (block_claims script.params Outward g) (made g) (tx_size script.params Outward) (returned g) all.0.rule.pays (out_sum script g sound.1 all.1)
 out_sum script ((Made l k a b, bytes) ∷ g) sound all =
     made_pays (block_claims script.params Outward ((Made l k a b, bytes) ∷ g)) (block_claims script.params Outward g) (made g) (tx_size script.params Outward) (returned g)
-    (and_false (packs script.params.class Outward) (nat_lt 0 (taken g - b))) all.0.rule.pays (out_sum script g sound.1 all.1)
+    (and_false (packs script.params.class Outward && nat_lt 0 (taken g - b))) all.0.rule.pays (out_sum script g sound.1 all.1)
 out_sum script ((Dropped l a b c, bytes) ∷ g) sound all =
     claim_pays (block_claims script.params Outward ((Dropped l a b c, bytes) ∷ g)) (block_claims script.params Outward g) (made g) (tx_size script.params Outward) (returned g)
     (λ x y. absurd (drop_claims (packs script.params.class Outward) (took_last g) (taken g) a b (cover g) sound.0.begins sound.0.is_some x y)) (out_sum script g sound.1 all.1)
@@ -239,9 +232,6 @@ not_gave m n v e = go (m == n) v e
     go true v e = absurd (false≢true e)
     go false v e = e
 
-both : (a b : Bool) → a ≡ true → b ≡ true → (a && b) ≡ true
-both a b p q = rw (p, q) refl
-
 pub delivered_grows : (e : Entry) (g : History) → IsSound (e ∷ g) → length (delivered g) ≤ length (delivered (e ∷ g))
 delivered_grows (Made l j a b, bytes) g sound =
     let same : length (delivered g) ≤ length (those test (made g)) = those_less (λ k. landed g k && is_empty (left_of g k)) test (made g) keep in
@@ -257,10 +247,10 @@ delivered_grows (Made l j a b, bytes) g sound =
     keep : (k : ℕ) → k < made g → (landed g k && is_empty (left_of g k)) ≡ true → test k ≡ true
     keep k h t = rw (ne_eqb j k (λ e. let same : j ≡ made g = sound.0.0 in omega arith)) t
 delivered_grows (Landed l j, bytes) g sound =
-    those_less _ _ (made g) (λ k h t. let r = and_parts (landed g k) (is_empty (left_of g k)) t in both _ _ (or_right (j == k) (landed g k) r.0) r.1)
+    those_less _ _ (made g) (λ k h t. let r = and_parts (landed g k) (is_empty (left_of g k)) t in and_from _ _ (or_right (j == k) (landed g k) r.0) r.1)
 delivered_grows (Gave l m, bytes) g sound =
     those_less _ _ (made g) (λ k h t. let r = and_parts (landed g k) (is_empty (left_of g k)) t in
-    both _ _ r.0 (filter_less (λ n. not (gave g n)) (λ n. not (m == n || gave g n)) (span_numbers (span g k)) (λ n e. not_gave m n (gave g n) e) r.1))
+    and_from _ _ r.0 (filter_less (λ n. not (gave g n)) (λ n. not (m == n || gave g n)) (span_numbers (span g k)) (λ n e. not_gave m n (gave g n) e) r.1))
 delivered_grows (e, bytes) g sound = omega arith
 
 pub more_least : (b : Bool) (n : ℕ) → n ≤ more_if b n

@@ -1,6 +1,8 @@
 -- What a step of one lane does to both lanes, to the phase and to the controls.
 use Rattle.std.proofs.Common.{List, ◌≡◌, Bool, true, false, [], ◌∷◌, ◌++◌, Option, Some, None, refl, sym, ap, ◌∙◌, subst, if◌then◌else◌, reverse}
 use Rattle.std.proofs.lemmas.Bool.{false≢true}
+use Rattle.std.proofs.lemmas.Option.{same_Some, none-some}
+use Rattle.un_frame.proofs.LaneLemmas.{same_lane-refl}
 use Rattle.un_frame.specs.declared.params.Lane.{Lane}
 use Rattle.un_frame.specs.Lanes.{same_lane}
 use Rattle.un_journal.specs.declared.lines.Line.{Line}
@@ -12,14 +14,13 @@ use Rattle.un_journal.specs.LaneSteps.{Outcome, Writes, Answers, lines_in}
 use Rattle.un_journal.specs.Step.{Work, work}
 use Rattle.un_journal.specs.Fits.{Act, Works, Controls, Fits, takes, refuses, waits_once, closes, begins_flight, cuts_queued, lands, fails, cuts_flight, comes_home, opens, gives, posts_one, marks, recalls_one, clears, settles, orders, orders_forced, after_took}
 use Rattle.un_journal.proofs.Onto.{onto, reverse_onto, past_onto, AllOf, filter_of}
-use Rattle.un_journal.proofs.Steps.{same_lane_same}
 use Rattle.un_journal.proofs.Rules.{AreStill, is_still_line, still_phase, made_still, made_of}
 use Rattle.un_journal.proofs.Complete.{outcome_fits}
 
 -- LINES OF ONE LANE
 
 pub past_own : (lane : Lane) (h lines : History) → AllOf lane lines → past lane (h ++ lines) ≡ onto lines (past lane h)
-past_own lane h lines a = past_onto lane h lines ∙ ap (λ xs. onto xs (past lane h)) (filter_of lane lane lines a ∙ go (same_lane lane lane) (same_lane_same lane))
+past_own lane h lines a = past_onto lane h lines ∙ ap (λ xs. onto xs (past lane h)) (filter_of lane lane lines a ∙ go (same_lane lane lane) (same_lane-refl lane))
   where
     go : (b : Bool) → b ≡ true → (if b then lines else []) ≡ lines
     go true e = refl
@@ -76,14 +77,8 @@ abbrev act_lane : Act → Option Lane
 act_lane (Works w) = lane_of w
 act_lane (Controls force) = None
 
-same_some : (a b : Lane) → Some a ≡ Some b → a ≡ b
-same_some a b e = cc
-
-none_some : (a : Lane) → None ≡ Some a → ⊥
-none_some a e = cc
-
 moved : (a lane : Lane) (lines : History) → Some a ≡ Some lane → OwnLines a lines → OwnLines lane lines
-moved a lane lines e w = subst (λ l. OwnLines l lines) (same_some a lane e) w
+moved a lane lines e w = subst (λ l. OwnLines l lines) (same_Some a lane e) w
 
 one_own : (lane : Lane) (e : Entry) → AllOf lane (e ∷ []) → is_still_line e ≡ true → OwnLines lane (e ∷ [])
 one_own lane e a s = record { own = a; still = (s, tt) }
@@ -108,9 +103,9 @@ fits_own script h lines act lane (posts_one l a r) q = moved l lane _ q (one_own
 fits_own script h lines act lane (marks l k s e) q = moved l lane _ q (one_own l _ (λ i. refl, tt) refl)
 fits_own script h lines act lane (recalls_one l s e p) q = moved l lane _ q (one_own l _ (λ i. refl, tt) refl)
 fits_own script h lines act lane (clears l a e) q = moved l lane _ q (one_own l _ (λ i. refl, tt) refl)
-fits_own script h lines act lane (settles s e) q = absurd (none_some lane q)
-fits_own script h lines act lane (orders force due e p d z) q = absurd (none_some lane q)
-fits_own script h lines act lane (orders_forced due e p d qu z) q = absurd (none_some lane q)
+fits_own script h lines act lane (settles s e) q = absurd (none-some lane q)
+fits_own script h lines act lane (orders force due e p d z) q = absurd (none-some lane q)
+fits_own script h lines act lane (orders_forced due e p d qu z) q = absurd (none-some lane q)
 
 -- a lane's work writes lines of its lane, no control and no settled line
 pub work_own : (script : Script) (h : History) (w : Work) (lane : Lane) → lane_of w ≡ Some lane → OwnLines lane (lines_in (work script h w))

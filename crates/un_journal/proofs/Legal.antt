@@ -1,20 +1,25 @@
 -- Every lane of a legal history is sound.
 use Rattle.std.proofs.Common.{◌≡◌, ℕ, ◌+◌, ◌-◌, ◌<◌, ◌≤◌, Bool, true, false, not, ◌&&◌, ◌||◌, ◌==◌, List, [], ◌∷◌, ◌++◌, Option, Some, None, ◌⊎◌, inl, inr, refl, sym, ap, ◌∙◌, subst, arith, if◌then◌else◌, append_assoc, append-nil, filter}
-use Rattle.std.proofs.lemmas.Bool.{false≢true, eqb-true, eqb-false, cases_lt, or_cases, or_right, and_parts}
-use Rattle.std.proofs.lemmas.Bool.Decides.{nat_tests}
+use Rattle.std.proofs.lemmas.Bool.{false≢true, eqb-true, eqb-false, cases_lt, or_cases, or_right, and_parts, not-false, not-true}
+use Rattle.std.proofs.lemmas.Option.{same_Some}
+use Rattle.un_frame.proofs.LaneLemmas.{same_lane-is}
+use Rattle.un_facts.proofs.Lists.{empty_is}
+use Rattle.un_facts.proofs.Booleans.{and_not}
+use Rattle.un_facts.specs.Lists.{is_empty}
+use Rattle.un_facts.specs.Numbers.{within}
 use Rattle.un_frame.specs.declared.params.Lane.{Lane}
 use Rattle.un_frame.specs.declared.params.Lane.TheVariants.{Outward, Inward}
 use Rattle.un_frame.specs.declared.kinds.Phase.{Phase}
 use Rattle.un_frame.specs.declared.kinds.Phase.TheVariants.{Up, Asleep, Stopping, Leaving, Down, Away}
 use Rattle.un_frame.specs.Lanes.{same_lane}
 use Rattle.un_journal.specs.declared.lines.Line.TheVariants.{Made, Flying, Landed, Failed, Cut, Dropped, Opened, Gave}
-use Rattle.un_journal.specs.History.{Entry, History, past, concerns, made, cover, flies, waits, landed, opened, gave, span, span_numbers, serial_of, waiting, flying, arrived, current, left_of, first, row_from, is_empty, within, told_if}
+use Rattle.un_journal.specs.History.{Entry, History, past, concerns, made, cover, flies, waits, landed, opened, gave, span, span_numbers, serial_of, waiting, flying, arrived, current, left_of, first, row_from, told_if}
 use Rattle.un_journal.specs.Lookup.{queued}
 use Rattle.un_journal.specs.Sound.{IsSound, Follows, IsNext, IsNextSpan, IsFirstArrived, IsNextNumber}
 use Rattle.un_journal.proofs.Status.{Status, Quiet, Aloft, Arrived, Faulted, Severed, status, status_of, is_aloft, is_arrived}
-use Rattle.un_journal.proofs.Numbers.{owned, opened_landed, within_true}
+use Rattle.un_journal.proofs.Numbers.{owned, opened_landed, within_true, within_yes}
 use Rattle.un_journal.proofs.Given.{top, opened_below, Made_now, is_new, is_old, told_cases}
-use Rattle.un_journal.proofs.Lists.{those_none, first_none, those_first, IsFirstInRow, row_none, row_first, same_lane_true, past_more}
+use Rattle.un_journal.proofs.Lists.{those_none, first_none, those_first, IsFirstInRow, row_none, row_first, past_more}
 
 -- ADDING LINES
 
@@ -42,7 +47,7 @@ add_lines h (e ∷ es) sound f = subst AllSound (append_assoc h (e ∷ []) es) (
 
 -- a line of one lane
 pub of_lane : (h : History) (e : Entry) (lane : Lane) → ((l : Lane) → concerns l e ≡ same_lane l lane) → Follows e (past lane h) → MayFollow h e
-of_lane h e lane same f l c = subst (λ i. Follows e (past i h)) (sym (same_lane_true l lane (sym (same l) ∙ c))) f
+of_lane h e lane same f l c = subst (λ i. Follows e (past i h)) (sym (same_lane-is l lane (sym (same l) ∙ c))) f
 
 -- WHAT THE LOOK-UPS SAY OF A SOUND LANE
 
@@ -140,9 +145,6 @@ told_new : (v : Bool) (j : ℕ) (o : Option ℕ) → v ≡ true → told_if v j 
 told_new true j o e = refl
 told_new false j o e = absurd (false≢true e)
 
-within_yes : (a b n : ℕ) → a ≤ n → n < b → within a b n ≡ true
-within_yes a b n p q = grind (arith, nat_tests)
-
 owns_new : (g : History) (l : Lane) (j a b : ℕ) (bytes : List ℕ) (s : ℕ × ℕ) → (j ≡ made g) × IsNextSpan g a b → (a, b) ≡ s → OwnsSpan ((Made l j a b, bytes) ∷ g) j s
 owns_new g l j a b bytes s f e = subst (OwnsSpan ((Made l j a b, bytes) ∷ g) j) e (record {
   in_order = let ab : a < b = f.1.is_some in omega arith;
@@ -180,30 +182,13 @@ owns_span (x ∷ g) sound k s e = let w = owns_span g sound.1 k s e in record { 
 
 -- THE RECEIVING END
 
-and_not : (l o : Bool) → (l && not o) ≡ false → l ≡ true → o ≡ true
-and_not true true e h = refl
-and_not true false e h = absurd (false≢true (sym e))
-and_not false o e h = absurd (false≢true h)
-
-pub not_true : (b : Bool) → not b ≡ true → b ≡ false
-not_true true e = absurd (false≢true e)
-not_true false e = refl
-
-not_false : (b : Bool) → not b ≡ false → b ≡ true
-not_false true e = refl
-not_false false e = absurd (false≢true (sym e))
-
-pub empty_is : {X : Type 0} (xs : List X) → is_empty xs ≡ true → xs ≡ []
-empty_is [] e = refl
-empty_is (x ∷ xs) e = absurd (false≢true e)
-
 -- the numbers left of a transfer with this span
 pub left_is : (g : History) (k a b : ℕ) → span g k ≡ Some (a, b) → left_of g k ≡ filter (λ n. not (gave g n)) (row_from a (b - a))
 left_is g k a b e = rw e refl
 
 pub whole_gave : (g : History) (k n : ℕ) → is_empty (left_of g k) ≡ true → HasSpan (span g k) n → gave g n ≡ true
 whole_gave g k n e w =
-    not_false (gave g n) (row_none (λ m. not (gave g m)) w.from (w.to - w.from) (sym (left_is g k w.from w.to w.is_span) ∙ empty_is (left_of g k) e) n w.above
+    not-false (gave g n) (row_none (λ m. not (gave g m)) w.from (w.to - w.from) (sym (left_is g k w.from w.to w.is_span) ∙ empty_is (left_of g k) e) n w.above
     (let p : w.from ≤ n = w.above in let q : n < w.to = w.below in omega arith))
 
 pub landed_made : (g : History) → IsSound g → (k : ℕ) → landed g k ≡ true → k < made g
@@ -216,7 +201,7 @@ arrived_from g k sound none e =
     let r = and_parts (landed g k) (not (opened g k)) f.passes in
     record {
       is_landed = r.0;
-      is_unopened = not_true (opened g k) r.1;
+      is_unopened = not-true (opened g k) r.1;
       is_least = λ j h l. and_not (landed g j) (opened g j) (f.is_least j h) l;
       is_alone = λ j n o i.
           whole_gave g j n
@@ -250,11 +235,8 @@ is_top g sound k n o e left =
     let low : k < top g = opened_below g sound k o in
     elim (cases_lt (k + 1) (top g)) [ inl h ↦ absurd (false≢true (sym left ∙ whole_below g sound k n o h e)) | inr h ↦ omega arith ]
 
-some_same_pair : (x y : ℕ × ℕ) → Some x ≡ Some y → x ≡ y
-some_same_pair x y e = cc
-
 pair_same : (a b c d : ℕ) (o : Option (ℕ × ℕ)) → o ≡ Some (a, b) → o ≡ Some (c, d) → a ≡ c
-pair_same a b c d o e f = first_same (some_same_pair (a, b) (c, d) (sym e ∙ f))
+pair_same a b c d o e f = first_same (same_Some (a, b) (c, d) (sym e ∙ f))
   where
     first_same : {x y : ℕ × ℕ} → x ≡ y → x.0 ≡ y.0
     first_same e = ap (λ (p : ℕ × ℕ). p.0) e
@@ -263,14 +245,14 @@ number_at : (g : History) (k n a b : ℕ) → IsSound g → opened g k ≡ true 
 number_at g k n a b sound o e f =
     let w = owns_span g sound k (a, b) e in
     let mine : serial_of g n ≡ Some k = w.owns n f.from (let ab : a ≤ b = w.in_order in let hi : n < a + (b - a) = f.to in omega arith) in
-    let left : gave g n ≡ false = not_true (gave g n) f.passes in
+    let left : gave g n ≡ false = not-true (gave g n) f.passes in
     record {
       serial = k;
       is_opened = o;
       is_in_span = mine;
       is_left = left;
       is_least = λ m h i. let s = has_span g sound m k i in
-          not_false (gave g m) (f.is_least m (let p : s.from ≤ m = s.above in let q : s.from ≡ a = pair_same s.from s.to a b (span g k) s.is_span e in omega arith) h);
+          not-false (gave g m) (f.is_least m (let p : s.from ≤ m = s.above in let q : s.from ≡ a = pair_same s.from s.to a b (span g k) s.is_span e in omega arith) h);
       is_alone = λ j m oj i lm.
           let p : j + 1 ≡ top g = is_top g sound j m oj i lm in
           let q : k + 1 ≡ top g = is_top g sound k n o mine left in omega arith;

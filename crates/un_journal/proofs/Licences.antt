@@ -1,17 +1,20 @@
 -- Every line of a legal history is licensed at its place.
-use Rattle.std.proofs.Common.{◌≡◌, ℕ, zero, suc, ◌+◌, ◌-◌, ◌<◌, ◌≤◌, Bool, true, false, ◌&&◌, ◌||◌, ◌==◌, List, [], ◌∷◌, ◌++◌, Option, Some, None, ◌⊎◌, inl, inr, refl, sym, ap, ◌∙◌, subst, arith, if◌then◌else◌, slice_get, filter, reverse, append_assoc, append-nil}
-use Rattle.std.proofs.lemmas.Bool.{false≢true, eqb-true, and_parts}
+use Rattle.std.proofs.Common.{◌≡◌, ℕ, zero, suc, ◌+◌, ◌-◌, ◌<◌, ◌≤◌, Bool, true, false, ◌||◌, ◌==◌, List, [], ◌∷◌, ◌++◌, Option, Some, None, ◌⊎◌, inl, inr, refl, sym, ap, ◌∙◌, subst, arith, if◌then◌else◌, slice_get, filter, reverse, append_assoc, append-nil}
+use Rattle.std.proofs.lemmas.Bool.{false≢true}
 use Rattle.std.proofs.lemmas.List.{reverse-append, reverse-reverse}
+use Rattle.un_journal.proofs.Rules.{home_four}
+use Rattle.un_journal.proofs.Onto.{newest}
+use Rattle.un_frame.proofs.LaneLemmas.{same_lane-is}
 use Rattle.un_frame.specs.declared.params.Lane.{Lane}
 use Rattle.un_frame.specs.declared.params.Lane.TheVariants.{Outward, Inward}
 use Rattle.un_frame.specs.declared.kinds.Phase.{Phase}
 use Rattle.un_frame.specs.declared.kinds.Phase.TheVariants.{Up, Asleep, Stopping, Leaving, Down, Away}
-use Rattle.un_frame.specs.Lanes.{same_lane}
+use Rattle.un_frame.specs.Lanes.{same_lane, tx_size, rx_size}
 use Rattle.un_journal.specs.declared.lines.Line.{Line}
 use Rattle.un_journal.specs.declared.lines.Line.TheVariants.{Took, Marked, Cut, Dropped, Recalled, Settled}
 use Rattle.un_journal.specs.declared.controls.Control.{Control as Order}
 use Rattle.un_journal.specs.declared.controls.Due.{Due}
-use Rattle.un_journal.specs.Script.{Script, tx_size, rx_size}
+use Rattle.un_journal.specs.Script.{Script}
 use Rattle.un_journal.specs.History.{Entry, History, past, concerns, mark, told_if}
 use Rattle.un_journal.specs.Lookup.{phase_of, phase_after, after_order, after_control, after_settled, controls_done, is_stopping, is_leaving}
 use Rattle.un_journal.specs.Licence.{Cuts, Stops, IsCause, IsOrder, Licensed}
@@ -20,7 +23,6 @@ use Rattle.un_journal.specs.Lookup.{deferred, tx_home, rx_home}
 use Rattle.un_journal.specs.LaneSteps.{bare}
 use Rattle.un_journal.specs.Step.{all_home, made_if, cut_each, marked_each, recalled_each, dropped_built, order_lines}
 use Rattle.un_journal.specs.Fits.{Act, Fits, takes, refuses, waits_once, closes, begins_flight, cuts_queued, lands, fails, cuts_flight, comes_home, opens, gives, posts_one, marks, recalls_one, clears, settles, orders, orders_forced, Legal, begins, goes_on, after_took}
-use Rattle.un_journal.proofs.Lists.{same_lane_true}
 
 -- every line is licensed at its place
 abbrev pub AllLicensed : Script → History → Type 0
@@ -61,7 +63,7 @@ pub mark_cause : (script : Script) (older : History) → AllLicensed script olde
 mark_cause script [] all l k c e = absurd (cc)
 mark_cause script ((Marked L j c', bytes) ∷ older) all l k c e =
     later_cause script (Marked L j c', bytes) older c (λ o. Cuts o l)
-    (marked_if script (same_lane l L) l L j k c c' bytes older (filter (concerns l) older) (same_lane_true l L) all.0 (mark_cause script older all.1 l k c) e)
+    (marked_if script (same_lane l L) l L j k c c' bytes older (filter (concerns l) older) (same_lane-is l L) all.0 (mark_cause script older all.1 l k c) e)
 mark_cause script (x ∷ older) all l k c e =
     later_cause script x older c (λ o. Cuts o l) (mark_cause script older all.1 l k c (sym (other_if (concerns l x) x (filter (concerns l) older) k refl) ∙ e))
 
@@ -111,9 +113,6 @@ stopped_by script (x ∷ older) all e = let w = stopped_by script older all.1 e 
 abbrev LicensedAll : Script → History → History → Type 0
 LicensedAll script older [] = Unit {0}
 LicensedAll script older (e ∷ es) = Licensed script older e × LicensedAll script (e ∷ older) es
-
-newest : (h : History) (e : Entry) → reverse (h ++ e ∷ []) ≡ e ∷ reverse h
-newest h e = rw reverse-append refl
 
 licensed_lines : (script : Script) (lines h : History) → AllLicensed script (reverse h) → LicensedAll script (reverse h) lines → AllLicensed script (reverse (h ++ lines))
 licensed_lines script [] h all f = rw append-nil all
@@ -199,13 +198,6 @@ made_licensed : (script : Script) (lane : Lane) (g : History) (o : Option (ℕ �
 made_licensed script lane g None older = tt
 made_licensed script lane g (Some s) older = (tt, tt)
 
-pub home_parts : (a b c d : ℕ × ℕ) → ((a.0 == a.1) && (b.0 == b.1) && (c.0 == c.1) && (d.0 == d.1)) ≡ true → (a.0 ≡ a.1) × (b.0 ≡ b.1) × (c.0 ≡ c.1) × (d.0 ≡ d.1)
-home_parts a b c d e =
-    let p = and_parts (((a.0 == a.1) && (b.0 == b.1)) && (c.0 == c.1)) (d.0 == d.1) e in
-    let q = and_parts ((a.0 == a.1) && (b.0 == b.1)) (c.0 == c.1) p.0 in
-    let r = and_parts (a.0 == a.1) (b.0 == b.1) q.0 in
-    (eqb-true a.0 a.1 r.0, eqb-true b.0 b.1 r.1, eqb-true c.0 c.1 q.1, eqb-true d.0 d.1 p.1)
-
 unlink_cause : (script : Script) (h : History) (lane : Lane) → AllLicensed script (reverse h) → is_stopping (phase_of script h) ≡ true → IsCause script (reverse h) (controls_done (reverse h) - 1) (λ o. Cuts o lane)
 unlink_cause script h lane all s =
     let w = stopped_by script (reverse h) all s in
@@ -229,7 +221,7 @@ step_licensed script h lines act all (marks lane k s e) = licensed_one script h 
 step_licensed script h lines act all (recalls_one lane s e p) = licensed_one script h _ all tt
 step_licensed script h lines act all (clears lane a e) = licensed_one script h _ all tt
 step_licensed script h lines act all (settles s e) =
-    let r = home_parts (tx_home script.params Outward (past Outward h), tx_size script.params Outward) (rx_home script.params Outward (past Outward h), rx_size script.params Outward)
+    let r = home_four (tx_home script.params Outward (past Outward h), tx_size script.params Outward) (rx_home script.params Outward (past Outward h), rx_size script.params Outward)
     (tx_home script.params Inward (past Inward h), tx_size script.params Inward) (rx_home script.params Inward (past Inward h), rx_size script.params Inward) e in
     licensed_one script h _ all (record { is_home = subst (λ i. all_home script i ≡ true) (sym (reverse-reverse h)) e; sizes = record { tx_out = r.0; rx_out = r.1; tx_in = r.2; rx_in = r.3 } })
 step_licensed script h lines act all (orders force due e p d z) = licensed_order script h false due all e p

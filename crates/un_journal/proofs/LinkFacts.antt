@@ -8,12 +8,13 @@ use Rattle.un_journal.specs.declared.lines.Line.{Line}
 use Rattle.un_journal.specs.declared.lines.Line.TheVariants.{Took, Made}
 use Rattle.un_journal.specs.declared.actions.Action.{Action}
 use Rattle.un_journal.specs.Script.{Script}
-use Rattle.un_journal.specs.History.{Entry, History, past, concerns, taken, made, flying, is_empty}
+use Rattle.un_journal.specs.History.{Entry, History, past, concerns, taken, made, flying}
 use Rattle.un_journal.specs.Lookup.{controls_done}
 use Rattle.un_journal.specs.LaneSteps.{lines_in}
-use Rattle.un_journal.specs.Step.{Work, work, step_of, is_still, offers, other_works, lane_works, quiet}
+use Rattle.un_journal.specs.Step.{Work, work, step_of, is_still, offers, other_works, lane_works, quiet, offers_still}
 use Rattle.std.specs.List.{list_all}
 use Rattle.std.proofs.lemmas.List.Folds.{list_all-append}
+use Rattle.un_facts.specs.Lists.{is_empty}
 use Rattle.un_frame.specs.declared.params.Lane.TheVariants.{Outward, Inward}
 use Rattle.un_journal.specs.Fits.{Act, Legal, IsDone, act_outcome}
 use Rattle.un_journal.specs.Drain.{run, round, drain, drain_in, same_length, line_bound}
@@ -58,9 +59,6 @@ step_has_byte_room script h action ranges agree legal =
 -- whether nothing flies in the lane and none of its work but an offer would write lines, and whether no offer would
 abbrev pub lane_still : Script → History → Lane → Bool
 lane_still script h lane = is_empty (flying (past lane h)) && list_all (λ w. is_still (work script h w)) (other_works lane)
-
-abbrev pub offers_still : Script → History → Lane → Bool
-offers_still script h lane = list_all (λ w. is_still (work script h w)) (offers lane)
 
 same_parts : (fo fi oo so oi si st : Bool) → ((fo && fi) && ((oo && so) && ((oi && si) && st))) ≡ (((fo && so) && (fi && si)) && ((oo && oi) && st))
 same_parts false fi oo so oi si st = refl

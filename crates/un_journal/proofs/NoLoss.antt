@@ -1,6 +1,6 @@
 -- A script that loses nothing: everything accepted is given, and every good frame is accepted.
 use Rattle.std.proofs.Common.{◌≡◌, ◌≢◌, ℕ, zero, suc, ◌+◌, ◌-◌, ◌<◌, ◌≤◌, Bool, true, false, ◌||◌, ◌==◌, List, [], ◌∷◌, ◌++◌, length, Option, Some, None, ◌⊎◌, inl, inr, refl, sym, ap, ◌∙◌, subst, arith, if◌then◌else◌, filter, reverse, slice_get, take, unwrap_or, append-nil}
-use Rattle.std.proofs.lemmas.Bool.{false≢true, eqb-true, eq-eqb, or_cases, or_left, or_right}
+use Rattle.std.proofs.lemmas.Bool.{false≢true, eqb-true, or_cases}
 use Rattle.un_frame.specs.declared.params.Lane.{Lane}
 use Rattle.un_frame.specs.declared.kinds.Phase.{Phase}
 use Rattle.un_frame.specs.declared.kinds.Phase.TheVariants.{Up, Asleep}
@@ -27,7 +27,7 @@ use Rattle.un_journal.proofs.Steps.{legal_good, Good}
 use Rattle.un_journal.proofs.Licences.{AllLicensed, legal_licensed}
 use Rattle.un_journal.proofs.Rules.{AllRuled, legal_ruled}
 use Rattle.un_journal.proofs.Homes.{AllLane, lane_ruled}
-use Rattle.un_journal.proofs.Calm.{has}
+use Rattle.un_journal.proofs.Calm.{has, has_last, has_append}
 use Rattle.un_journal.proofs.Finished.{done_finished}
 
 -- NOTHING IS LOST
@@ -111,19 +111,11 @@ up_at_end script h w all e = go (wake_case script w (reverse h) all)
 
 -- EVERY NUMBER
 
-has_last : (k : ℕ) (xs : List ℕ) → has k (xs ++ k ∷ []) ≡ true
-has_last k [] = rw (eq-eqb k k refl) refl
-has_last k (x ∷ xs) = or_right (x == k) (has k (xs ++ k ∷ [])) (has_last k xs)
-
-has_more : (k : ℕ) (xs ys : List ℕ) → has k xs ≡ true → has k (xs ++ ys) ≡ true
-has_more k [] ys e = absurd (false≢true e)
-has_more k (x ∷ xs) ys e = elim (or_cases (x == k) (has k xs) e) [ inl same ↦ or_left (x == k) (has k (xs ++ ys)) same | inr rest ↦ or_right (x == k) (has k (xs ++ ys)) (has_more k xs ys rest) ]
-
 gave_has : (g : History) (n : ℕ) → gave g n ≡ true → has n (given g) ≡ true
 gave_has [] n e = absurd (false≢true e)
 gave_has ((Gave l m, bytes) ∷ g) n e = elim (or_cases (m == n) (gave g n) e) [
   | inl same ↦ subst (λ i. has i (given g ++ m ∷ []) ≡ true) (eqb-true m n same) (has_last m (given g))
-  | inr before ↦ has_more n (given g) (m ∷ []) (gave_has g n before)
+  | inr before ↦ has_append n (given g) (m ∷ []) (gave_has g n before)
 ]
 gave_has (e' ∷ g) n e = gave_has g n e
 

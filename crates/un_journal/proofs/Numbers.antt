@@ -2,9 +2,11 @@
 use Rattle.std.proofs.Common.{◌≡◌, ℕ, ◌+◌, ◌<◌, ◌≤◌, Bool, true, false, not, ◌||◌, ◌==◌, List, [], ◌∷◌, Option, Some, None, ◌⊎◌, inl, inr, refl, sym, ◌∙◌, subst, arith, is_some}
 use Rattle.std.proofs.lemmas.Bool.{false≢true, eqb-true, or_cases, or_right, cases_lt}
 use Rattle.std.proofs.lemmas.Bool.Decides.{nat_tests}
+use Rattle.std.proofs.lemmas.Option.{same_Some}
+use Rattle.un_facts.specs.Numbers.{within}
 use Rattle.un_frame.specs.declared.params.Lane.{Lane}
 use Rattle.un_journal.specs.declared.lines.Line.TheVariants.{Made, Landed, Dropped, Opened, Gave}
-use Rattle.un_journal.specs.History.{History, made, cover, landed, opened, gave, serial_of, dropped, within, told_if}
+use Rattle.un_journal.specs.History.{History, made, cover, landed, opened, gave, serial_of, dropped, told_if}
 use Rattle.un_journal.specs.Sound.{IsSound, IsNextSpan}
 
 -- who has number n: a transfer or a drop, where it is covered
@@ -28,9 +30,6 @@ within_true a b n e = grind (arith, nat_tests)
 pub within_false : (a b n : ℕ) → within a b n ≡ false → (n < a) ⊎ (b ≤ n)
 within_false a b n e = grind (arith, nat_tests)
 
-some_same : (m k : ℕ) → Some m ≡ Some k → m ≡ k
-some_same m k e = cc
-
 make_outside : (n a b m : ℕ) (o : Option ℕ) (d : Bool) → (n < a) ⊎ (b ≤ n) → a < b → Owned n o d a m → Owned n o d b (m + 1)
 make_outside n a b m o d (inl low) ab w = record {
   above = λ h. absurd (omega arith);
@@ -47,7 +46,7 @@ make_inside : (n a b m : ℕ) (o : Option ℕ) (d : Bool) → (a ≤ n) × (n < 
 make_inside n a b m o d i w = record {
   above = λ h. absurd (omega (arith, i.1));
   below = λ h. rw (w.above i.0).1 refl;
-  known = λ k e. let same : m ≡ k = some_same m k e in omega arith;
+  known = λ k e. let same : m ≡ k = same_Some m k e in omega arith;
 }
 
 pub make : (v : Bool) (n a b m : ℕ) (o : Option ℕ) (d : Bool) → (v ≡ true → (a ≤ n) × (n < b)) → (v ≡ false → (n < a) ⊎ (b ≤ n)) → a < b → Owned n o d a m → Owned n (told_if v m o) d b (m + 1)

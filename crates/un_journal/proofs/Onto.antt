@@ -4,6 +4,7 @@ use Rattle.std.proofs.lemmas.List.{reverse-append}
 use Rattle.un_frame.specs.declared.params.Lane.{Lane}
 use Rattle.un_frame.specs.Lanes.{same_lane}
 use Rattle.un_journal.specs.History.{Entry, History, past, concerns}
+use Rattle.un_journal.specs.Sound.{IsSound}
 
 abbrev pub onto : History → History → History
 onto [] g = g
@@ -59,3 +60,12 @@ filter_of lane l (e ∷ es) a = rw (a.0 l, filter_of lane l es a.1) (go (same_la
     go : (b : Bool) → (if b then (e ∷ (if b then es else [])) else (if b then es else [])) ≡ (if b then (e ∷ es) else [])
     go true = refl
     go false = refl
+
+-- what lies below sound lines is sound
+pub sound_under : (b : Bool) (e : Entry) (g : History) → IsSound (if b then (e ∷ g) else g) → IsSound g
+sound_under true e g s = s.1
+sound_under false e g s = s
+
+pub sound_below : (lines g : History) → IsSound (onto lines g) → IsSound g
+sound_below [] g s = s
+sound_below (e ∷ lines) g s = (sound_below lines (e ∷ g) s).1

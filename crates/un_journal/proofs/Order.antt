@@ -2,18 +2,11 @@
 use Rattle.std.proofs.Common.{◌≡◌, ℕ, ◌+◌, ◌<◌, ◌≤◌, Bool, true, false, not, ◌&&◌, ◌||◌, ◌==◌, [], ◌∷◌, ◌⊎◌, inl, inr, refl, sym, ◌∙◌, subst, arith, if◌then◌else◌}
 use Rattle.std.proofs.lemmas.Bool.{false≢true, eqb-true, eqb-false, eq-eqb, cases_lt, cases_Bool}
 use Rattle.un_journal.specs.declared.lines.Line.TheVariants.{Flying, Landed, Failed, Cut}
-use Rattle.un_journal.specs.History.{History, flies, waits, landed, failed, was_cut}
+use Rattle.un_journal.specs.History.{History, flies, waits, landed, failed, was_cut, ends}
 use Rattle.un_journal.specs.Sound.{IsSound, IsNext}
 use Rattle.un_journal.proofs.Status.{Status, Quiet, Aloft, Arrived, Faulted, Severed, Reads, status, status_of, is_aloft, is_arrived, is_faulted, is_severed}
 
--- how many transfers have ended, and whether one flies
-abbrev pub ends : History → ℕ
-ends [] = 0
-ends ((Landed l k, bytes) ∷ g) = ends g + 1
-ends ((Failed l k kind, bytes) ∷ g) = ends g + 1
-ends ((Cut l k c, bytes) ∷ g) = ends g + 1
-ends (e ∷ g) = ends g
-
+-- whether a transfer flies
 abbrev pub is_up : History → Bool
 is_up [] = false
 is_up ((Flying l k, bytes) ∷ g) = true

@@ -3,6 +3,8 @@ use Rattle.std.proofs.Common.{ℕ, ◌+◌, ◌*◌, ◌≡◌, Bool, true, fals
 use Rattle.std.specs.List.{flat_map}
 use Rattle.std.proofs.lemmas.Bool.{ltb-true}
 use Rattle.std.proofs.lemmas.Bool.Decides.{nat_tests}
+use Rattle.std.proofs.lemmas.Option.{same_Some}
+use Rattle.un_facts.proofs.Booleans.{and_first, and_second}
 use Rattle.hex.specs.Hex.{encode_lower, encode_with, lower_digits}
 use Rattle.hex.proofs.HexLemmas.{length-encode_with}
 use Rattle.un_journal.specs.declared.lines.Line.{Line}
@@ -11,9 +13,9 @@ use Rattle.un_journal.specs.History.{Entry, History}
 use Rattle.un_journal.specs.Log.{IsEntry, AreEntries, CarriesItsBytes}
 use Rattle.un_journal.specs.Text.{name_of, words_of, bytes_words, spaced, entry_text}
 use Rattle.un_journal.specs.TraceWords.{words_in, bytes_in}
-use Rattle.un_journal.specs.TraceLines.{Written, line_of, line_in, entry_with, entry_in}
+use Rattle.un_journal.specs.TraceLines.{line_of, line_in, entry_with, entry_in}
 use Rattle.un_journal.specs.TraceRead.{feeds}
-use Rattle.un_journal.proofs.TextCuts.{is_glyph, is_plain, are_plain, left, right}
+use Rattle.un_journal.proofs.TextCuts.{is_glyph, is_plain, are_plain}
 use Rattle.un_journal.proofs.TextReads.{all_words, name_plain, entry_plain, shape}
 use Rattle.un_journal.proofs.ReadWords.{heard, joined, parted}
 use Rattle.un_journal.proofs.ReadFields.{bytes_sound, bytes_back}
@@ -38,13 +40,10 @@ carry_back line digits bytes e h = omega (arith, e, h)
 abbrev pub line_text_of : Entry → List ℕ
 line_text_of e = name_of e.0 ++ spaced (all_words e)
 
-same_entry : (x y : Entry) → Some x ≡ Some y → x ≡ y
-same_entry x y h = cc
-
 abbrev Reads : List ℕ → Entry → Type 0
 Reads text e = IsEntry e × (line_text_of e ≡ text)
 
-written_reads : (text : List ℕ) (w : Written) (e : Entry) → line_in text ≡ Some w → entry_with w ≡ Some e → Reads text e
+written_reads : (text : List ℕ) (w : Entry) (e : Entry) → line_in text ≡ Some w → entry_with w ≡ Some e → Reads text e
 written_reads text (line, digits) e lh eh =
     through (Reads text e) (bytes_in digits) _ e (λ bytes bh same.
     let b = bytes_sound digits bytes bh in
@@ -52,7 +51,7 @@ written_reads text (line, digits) e lh eh =
     let long : length digits ≡ 2 * length bytes = ap length (sym b.0) ∙ length-encode_with lower_digits bytes in
     let words : digit_words digits ≡ bytes_words bytes = ap digit_words (sym b.0) ∙ digits_same bytes in
     let whole : name_of line ++ spaced (words_of line ++ bytes_words bytes) ≡ text = ap (λ ws. name_of line ++ spaced (words_of line ++ ws)) (sym words) ∙ joined text (name_of line) (words_of line ++ digit_words digits) s.0 in
-    subst (Reads text) (same_entry (line, bytes) e same) ((s.1, s.2, carry line digits bytes long s.3, b.1), whole)) eh
+    subst (Reads text) (same_Some (line, bytes) e same) ((s.1, s.2, carry line digits bytes long s.3, b.1), whole)) eh
 
 pub entry_sound : (text : List ℕ) (e : Entry) → entry_in text ≡ Some e → Reads text e
 entry_sound text e h = through (Reads text e) (line_in text) entry_with e (λ w lh eh. written_reads text w e lh eh) h
@@ -85,12 +84,12 @@ no_feed c above = let over = ltb-true 32 c above in grind (arith, nat_tests)
 
 pub plain_feeds : (w : List ℕ) → is_plain w ≡ true → feeds w ≡ 0
 plain_feeds [] p = refl
-plain_feeds (c ∷ w) p = rw (no_feed c (left (is_glyph c) (is_plain w) p)) (plain_feeds w (right (is_glyph c) (is_plain w) p))
+plain_feeds (c ∷ w) p = rw (no_feed c (and_first (is_glyph c) (is_plain w) p)) (plain_feeds w (and_second (is_glyph c) (is_plain w) p))
 
 spaced_feeds : (ws : List (List ℕ)) → are_plain ws ≡ true → feeds (spaced ws) ≡ 0
 spaced_feeds [] p = refl
 spaced_feeds (w ∷ ws) p =
-    feeds_append (32 ∷ w) (spaced ws) ∙ (let a = plain_feeds w (left (is_plain w) (are_plain ws) p) in let b = spaced_feeds ws (right (is_plain w) (are_plain ws) p) in omega (arith, a, b))
+    feeds_append (32 ∷ w) (spaced ws) ∙ (let a = plain_feeds w (and_first (is_plain w) (are_plain ws) p) in let b = spaced_feeds ws (and_second (is_plain w) (are_plain ws) p) in omega (arith, a, b))
 
 pub line_feeds : (e : Entry) → IsEntry e → feeds (line_text_of e) ≡ 0
 line_feeds e is = feeds_append (name_of e.0) (spaced (all_words e)) ∙ (let a = plain_feeds (name_of e.0) (name_plain e.0) in let b = spaced_feeds (all_words e) (entry_plain e is) in omega (arith, a, b))

@@ -6,11 +6,12 @@ use Rattle.std.specs.Prelude.{MatchResult}
 use Rattle.std.proofs.lemmas.List.{take-append-le, take_all}
 use Rattle.std.specs.Fmt.{digits}
 use Rattle.std.specs.Str.{bytes_eq}
-use Rattle.std.proofs.lemmas.Bool.{and_parts, eqb-true, cases_lt}
+use Rattle.std.proofs.lemmas.Bool.{and_parts, eqb-true, cases_lt, not-true}
 use Rattle.std.proofs.lemmas.Bool.Decides.{nat_tests}
-use Rattle.std.proofs.lemmas.Slice.Eq.{bytes_eq-Decides}
 use Rattle.std.proofs.lemmas.Str.Parse.{IsDigitsTest, FoldsDigits, IsNumeralModel, numerals_by_fold}
 use Rattle.std.proofs.lemmas.Fmt.{decimal-digits_value, digits_value-decimal, digits_decimal, first_decimal, decimal_nonempty}
+use Rattle.un_frame.specs.Spelling.{lane_word, lane_named}
+use Rattle.un_facts.proofs.Lists.{same_bytes}
 use Rattle.hex.specs.Hex.{encode_lower, encode_with, lower_digits, decode_of, decode_pairs, hex_digit_value, value_at, pair_value, digit_or_error, ◌>>=◌}
 use Rattle.hex.specs.declared.FromHexError.{FromHexError}
 use Rattle.hex.proofs.HexLemmas.{decode_of-encode_lower, decode_of-ok, decode_of-even, decode_of-odd}
@@ -21,12 +22,9 @@ use Rattle.un_frame.specs.declared.kinds.FaultKind.{FaultKind}
 use Rattle.un_frame.specs.declared.kinds.FaultKind.TheVariants.{Proto, Halt}
 use Rattle.un_frame.specs.declared.kinds.Verdict.{Verdict}
 use Rattle.un_frame.specs.declared.kinds.Verdict.TheVariants.{Take, Short, Long, Filtered}
-use Rattle.un_journal.specs.Text.{lane_word, verdict_word, kind_word, flag_word}
-use Rattle.un_journal.specs.TraceWords.{lane_in, why_in, kind_in, flag_in, is_digit, has_leading_zero, is_numeral, number_from, number_in, short_in, long_in, is_upper, bytes_in}
+use Rattle.un_journal.specs.Text.{verdict_word, kind_word, flag_word}
+use Rattle.un_journal.specs.TraceWords.{why_in, flag_in, is_digit, has_leading_zero, is_numeral, number_from, number_in, short_in, long_in, is_upper, bytes_in, kind_named}
 use Rattle.un_journal.proofs.ReadNumbers.{number_yes}
-
-pub same_bytes : (u v : List ℕ) → bytes_eq u v ≡ true → u ≡ v
-same_bytes u v h = (bytes_eq-Decides u v).0 h
 
 -- a choice that gave something
 pub picked : {X : Type 0} (P : Type 0) (b : Bool) (x : X) (other : Option X) (v : X) → (b ≡ true → x ≡ v → P) → (other ≡ Some v → P) → (if b then Some x else other) ≡ Some v → P
@@ -38,13 +36,13 @@ never P v h = absurd (cc)
 
 -- NAMES
 
-pub lane_sound : (w : List ℕ) (l : Lane) → lane_in w ≡ Some l → lane_word l ≡ w
+pub lane_sound : (w : List ℕ) (l : Lane) → lane_named w ≡ Some l → lane_word l ≡ w
 lane_sound w l h =
     let P : Type 0 = lane_word l ≡ w in
     picked P (bytes_eq w (codes "out")) Outward _ l (λ e same. rw (← same) (sym (same_bytes w (codes "out") e)))
     (picked P (bytes_eq w (codes "in")) Inward None l (λ e same. rw (← same) (sym (same_bytes w (codes "in") e))) (never P l)) h
 
-pub lane_back : (l : Lane) → lane_in (lane_word l) ≡ Some l
+pub lane_back : (l : Lane) → lane_named (lane_word l) ≡ Some l
 lane_back Outward = refl
 lane_back Inward = refl
 
@@ -61,13 +59,13 @@ why_back Short h = refl
 why_back Long h = refl
 why_back Filtered h = refl
 
-pub kind_sound : (w : List ℕ) (kind : FaultKind) → kind_in w ≡ Some kind → kind_word kind ≡ w
+pub kind_sound : (w : List ℕ) (kind : FaultKind) → kind_named w ≡ Some kind → kind_word kind ≡ w
 kind_sound w kind h =
     let P : Type 0 = kind_word kind ≡ w in
     picked P (bytes_eq w (codes "proto")) Proto _ kind (λ e same. rw (← same) (sym (same_bytes w (codes "proto") e)))
     (picked P (bytes_eq w (codes "halt")) Halt None kind (λ e same. rw (← same) (sym (same_bytes w (codes "halt") e))) (never P kind)) h
 
-pub kind_back : (kind : FaultKind) → kind_in (kind_word kind) ≡ Some kind
+pub kind_back : (kind : FaultKind) → kind_named (kind_word kind) ≡ Some kind
 kind_back Proto = refl
 kind_back Halt = refl
 
@@ -110,16 +108,12 @@ no_lead [] h = refl
 no_lead (c ∷ []) h = refl
 no_lead (c ∷ d ∷ ds) h = grind (arith, nat_tests)
 
-not_no : (b : Bool) → not b ≡ true → b ≡ false
-not_no true h = absurd (cc)
-not_no false h = refl
-
 numeral_spells : (w : List ℕ) → is_numeral w ≡ true → number_from 0 w < 2 ^ 64 → decimal (number_from 0 w) ≡ w
 numeral_spells w h small =
     let outer = and_parts (list_all is_digit w && not (length w == 0)) (not (has_leading_zero w)) h in
     let inner = and_parts (list_all is_digit w) (not (length w == 0)) outer.0 in
     let some : 0 < length w = grind (arith, nat_tests, inner.1) in
-    decimal-digits_value own w inner.0 some (λ z. leads w (not_no (has_leading_zero w) outer.1) z some) small
+    decimal-digits_value own w inner.0 some (λ z. leads w (not-true (has_leading_zero w) outer.1) z some) small
 
 number_sound : (most : ℕ) (w : List ℕ) (n : ℕ) → most < 2 ^ 64 → number_in most w ≡ Some n → (decimal n ≡ w) × (n ≤ most)
 number_sound most w n top h =
@@ -225,8 +219,8 @@ pairs_low i (a ∷ b ∷ rest) bytes low h =
     ok_then P (decode_pairs (i + 2) rest) _ bytes (λ more me mh.
     ok_then P (value_at a i) _ byte (λ x xe xh.
     ok_then P (value_at b (i + 1)) _ byte (λ y ye yh.
-    let u = digit_spells a x (not_no (is_upper a) p.0) (digit_ok a i (hex_digit_value a) x xe) in
-    let v = digit_spells b y (not_no (is_upper b) q.0) (digit_ok b (i + 1) (hex_digit_value b) y ye) in
+    let u = digit_spells a x (not-true (is_upper a) p.0) (digit_ok a i (hex_digit_value a) x xe) in
+    let v = digit_spells b y (not-true (is_upper b) q.0) (digit_ok b (i + 1) (hex_digit_value b) y ye) in
     let sum : x * 16 + y ≡ byte = same_ok (x * 16 + y) byte yh in
     let all : byte ∷ more ≡ bytes = same_ok (byte ∷ more) bytes mh in
     rw (← all, ← sum) (two_digits a b x y rest more u v (pairs_low (i + 2) rest more q.1 me))) xh) be) bh) h

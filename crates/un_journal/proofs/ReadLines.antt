@@ -2,14 +2,19 @@
 use Rattle.std.proofs.Common.{ℕ, ◌<◌, ◌^◌, ◌≡◌, Bool, true, false, ◌==◌, if◌then◌else◌, List, [], ◌∷◌, ◌++◌, length, codes, decimal, Option, Some, None, refl, sym, ap, ◌∙◌, subst, arith}
 use Rattle.std.specs.Str.{bytes_eq}
 use Rattle.std.proofs.lemmas.Bool.Decides.{nat_tests}
+use Rattle.std.proofs.lemmas.List.{nil_from_length}
+use Rattle.std.proofs.lemmas.Option.{same_Some}
+use Rattle.un_journal.specs.History.{Entry}
+use Rattle.un_frame.specs.Spelling.{lane_word, lane_named}
+use Rattle.un_facts.proofs.Lists.{same_bytes}
 use Rattle.un_frame.specs.declared.params.Lane.{Lane}
 use Rattle.un_journal.specs.declared.lines.Line.{Line}
 use Rattle.un_journal.specs.declared.lines.Line.TheVariants.{Took, Refused, Made, Waited, Posted, Flying, Landed, Failed, Marked, Cut, Dropped, TxHome, Opened, Gave, Recalled, Cleared, Control, Settled}
 use Rattle.un_journal.specs.Log.{FitsTypes, HasReason, CarriesItsBytes}
-use Rattle.un_journal.specs.Text.{lane_word, name_of, words_of}
-use Rattle.un_journal.specs.TraceWords.{lane_in, why_in, kind_in, flag_in, short_in, long_in}
-use Rattle.un_journal.specs.TraceLines.{◌>>=◌, Written, without_bytes, with_bytes, one_named, one_word, two_named, numbered_line, took_line, control_line, two_words, refused_line, failed_line, marked_line, cut_line, gave_line, three_words, dropped_line, settled_line, four_words, made_line, line_of}
-use Rattle.un_journal.proofs.ReadFields.{same_bytes, picked, never, lane_sound, lane_back, why_sound, why_back, kind_sound, kind_back, flag_sound, flag_back, short_sound, short_back, long_sound, long_back}
+use Rattle.un_journal.specs.Text.{name_of, words_of}
+use Rattle.un_journal.specs.TraceWords.{why_in, flag_in, short_in, long_in, kind_named}
+use Rattle.un_journal.specs.TraceLines.{◌>>=◌, without_bytes, with_bytes, one_named, one_word, two_named, numbered_line, took_line, control_line, two_words, refused_line, failed_line, marked_line, cut_line, gave_line, three_words, dropped_line, settled_line, four_words, made_line, line_of}
+use Rattle.un_journal.proofs.ReadFields.{picked, never, lane_sound, lane_back, why_sound, why_back, kind_sound, kind_back, flag_sound, flag_back, short_sound, short_back, long_sound, long_back}
 
 -- what a line that is read has: its name and words, and what each entry has
 abbrev pub Says : List ℕ → List (List ℕ) → List ℕ → Line → Type 0
@@ -45,7 +50,7 @@ words4 {a} {a'} {b} {b'} {c} {c'} {d} {d'} e f g i = ap (λ w. w ∷ b ∷ c ∷
 took_sound : (a b : List ℕ) (line : Line) → took_line a b ≡ Some line → Says (codes "took") (a ∷ b ∷ []) [] line
 took_sound a b line h =
     let P : Type 0 = Says (codes "took") (a ∷ b ∷ []) [] line in
-    through P (lane_in a) _ line (λ x xe xh.
+    through P (lane_named a) _ line (λ x xe xh.
     through P (short_in b) _ line (λ y ye yh.
     let is : Says (codes "took") (a ∷ b ∷ []) [] (Took x y) = (refl, words2 (lane_sound a x xe) ((short_sound b y ye).0), (short_sound b y ye).1, tt, refl) in
     subst (λ n. Says (codes "took") (a ∷ b ∷ []) [] n) (some_line (Took x y) line yh) is) xh) h
@@ -61,7 +66,7 @@ control_sound a b line h =
 refused_sound : (a b c : List ℕ) (line : Line) → refused_line a b c ≡ Some line → Says (codes "refused") (a ∷ b ∷ c ∷ []) [] line
 refused_sound a b c line h =
     let P : Type 0 = Says (codes "refused") (a ∷ b ∷ c ∷ []) [] line in
-    through P (lane_in a) _ line (λ x xe xh.
+    through P (lane_named a) _ line (λ x xe xh.
     through P (short_in b) _ line (λ y ye yh.
     through P (why_in c) _ line (λ z ze zh.
     let is : Says (codes "refused") (a ∷ b ∷ c ∷ []) [] (Refused x y z) = (refl, words3 (lane_sound a x xe) ((short_sound b y ye).0) ((why_sound c z ze).0), (short_sound b y ye).1, (why_sound c z ze).1, refl) in
@@ -70,16 +75,16 @@ refused_sound a b c line h =
 failed_sound : (a b c : List ℕ) (line : Line) → failed_line a b c ≡ Some line → Says (codes "failed") (a ∷ b ∷ c ∷ []) [] line
 failed_sound a b c line h =
     let P : Type 0 = Says (codes "failed") (a ∷ b ∷ c ∷ []) [] line in
-    through P (lane_in a) _ line (λ x xe xh.
+    through P (lane_named a) _ line (λ x xe xh.
     through P (long_in b) _ line (λ y ye yh.
-    through P (kind_in c) _ line (λ z ze zh.
+    through P (kind_named c) _ line (λ z ze zh.
     let is : Says (codes "failed") (a ∷ b ∷ c ∷ []) [] (Failed x y z) = (refl, words3 (lane_sound a x xe) ((long_sound b y ye).0) (kind_sound c z ze), (long_sound b y ye).1, tt, refl) in
     subst (λ n. Says (codes "failed") (a ∷ b ∷ c ∷ []) [] n) (some_line (Failed x y z) line zh) is) yh) xh) h
 
 marked_sound : (a b c : List ℕ) (line : Line) → marked_line a b c ≡ Some line → Says (codes "marked") (a ∷ b ∷ c ∷ []) [] line
 marked_sound a b c line h =
     let P : Type 0 = Says (codes "marked") (a ∷ b ∷ c ∷ []) [] line in
-    through P (lane_in a) _ line (λ x xe xh.
+    through P (lane_named a) _ line (λ x xe xh.
     through P (long_in b) _ line (λ y ye yh.
     through P (short_in c) _ line (λ z ze zh.
     let is : Says (codes "marked") (a ∷ b ∷ c ∷ []) [] (Marked x y z) = (refl, words3 (lane_sound a x xe) ((long_sound b y ye).0) ((short_sound c z ze).0), ((long_sound b y ye).1, (short_sound c z ze).1), tt, refl) in
@@ -88,7 +93,7 @@ marked_sound a b c line h =
 cut_sound : (a b c : List ℕ) (line : Line) → cut_line a b c ≡ Some line → Says (codes "cut") (a ∷ b ∷ c ∷ []) [] line
 cut_sound a b c line h =
     let P : Type 0 = Says (codes "cut") (a ∷ b ∷ c ∷ []) [] line in
-    through P (lane_in a) _ line (λ x xe xh.
+    through P (lane_named a) _ line (λ x xe xh.
     through P (long_in b) _ line (λ y ye yh.
     through P (short_in c) _ line (λ z ze zh.
     let is : Says (codes "cut") (a ∷ b ∷ c ∷ []) [] (Cut x y z) = (refl, words3 (lane_sound a x xe) ((long_sound b y ye).0) ((short_sound c z ze).0), ((long_sound b y ye).1, (short_sound c z ze).1), tt, refl) in
@@ -97,7 +102,7 @@ cut_sound a b c line h =
 gave_sound : (a b digits : List ℕ) (line : Line) → 0 < length digits → gave_line a b ≡ Some line → Says (codes "gave") (a ∷ b ∷ []) digits line
 gave_sound a b digits line some h =
     let P : Type 0 = Says (codes "gave") (a ∷ b ∷ []) digits line in
-    through P (lane_in a) _ line (λ x xe xh.
+    through P (lane_named a) _ line (λ x xe xh.
     through P (long_in b) _ line (λ y ye yh.
     let is : Says (codes "gave") (a ∷ b ∷ []) digits (Gave x y) = (refl, words2 (lane_sound a x xe) ((long_sound b y ye).0), (long_sound b y ye).1, tt, some) in
     subst (λ n. Says (codes "gave") (a ∷ b ∷ []) digits n) (some_line (Gave x y) line yh) is) xh) h
@@ -105,7 +110,7 @@ gave_sound a b digits line some h =
 dropped_sound : (a b c d : List ℕ) (line : Line) → dropped_line a b c d ≡ Some line → Says (codes "dropped") (a ∷ b ∷ c ∷ d ∷ []) [] line
 dropped_sound a b c d line h =
     let P : Type 0 = Says (codes "dropped") (a ∷ b ∷ c ∷ d ∷ []) [] line in
-    through P (lane_in a) _ line (λ x xe xh.
+    through P (lane_named a) _ line (λ x xe xh.
     through P (long_in b) _ line (λ y ye yh.
     through P (long_in c) _ line (λ z ze zh.
     through P (short_in d) _ line (λ u ue uh.
@@ -125,7 +130,7 @@ settled_sound a b c d line h =
 made_sound : (a b c d digits : List ℕ) (line : Line) → 0 < length digits → made_line a b c d ≡ Some line → Says (codes "made") (a ∷ b ∷ c ∷ d ∷ []) digits line
 made_sound a b c d digits line some h =
     let P : Type 0 = Says (codes "made") (a ∷ b ∷ c ∷ d ∷ []) digits line in
-    through P (lane_in a) _ line (λ x xe xh.
+    through P (lane_named a) _ line (λ x xe xh.
     through P (long_in b) _ line (λ y ye yh.
     through P (long_in c) _ line (λ z ze zh.
     through P (long_in d) _ line (λ u ue uh.
@@ -159,12 +164,12 @@ renamed name other words digits line e s = (s.0 ∙ sym (same_bytes other name e
 one_sound : (name a : List ℕ) (line : Line) → one_word name a ≡ Some line → Says name (a ∷ []) [] line
 one_sound name a line h =
     let P : Type 0 = Says name (a ∷ []) [] line in
-    through P (lane_in a) _ line (λ l le lh. reworded name _ _ [] line (words1 (lane_sound a l le)) (one_named_sound name l line lh)) h
+    through P (lane_named a) _ line (λ l le lh. reworded name _ _ [] line (words1 (lane_sound a l le)) (one_named_sound name l line lh)) h
 
 numbered_sound : (name a b : List ℕ) (line : Line) → numbered_line name a b ≡ Some line → Says name (a ∷ b ∷ []) [] line
 numbered_sound name a b line h =
     let P : Type 0 = Says name (a ∷ b ∷ []) [] line in
-    through P (lane_in a) _ line (λ l le lh.
+    through P (lane_named a) _ line (λ l le lh.
     through P (long_in b) _ line (λ k ke kh.
     let n = long_sound b k ke in
     reworded name _ _ [] line (words2 (lane_sound a l le) n.0) (two_named_sound name l k line n.1 kh)) lh) h
@@ -203,11 +208,8 @@ some_length d ds = grind (arith, nat_tests)
 abbrev pub Spells : List (List ℕ) → Line → List ℕ → Type 0
 Spells words line digits = (words ≡ name_of line ∷ (words_of line ++ digit_words digits)) × FitsTypes line × HasReason line × CarriesItsBytes line digits
 
-abbrev pub SpellsAs : List (List ℕ) → Written → Type 0
+abbrev pub SpellsAs : List (List ℕ) → Entry → Type 0
 SpellsAs words (line, digits) = Spells words line digits
-
-same_written : (x y : Written) → Some x ≡ Some y → x ≡ y
-same_written x y h = cc
 
 bare_spells : (name : List ℕ) (words : List (List ℕ)) (line : Line) → Says name words [] line → Spells (name ∷ words) line []
 bare_spells name words line s = (rw (s.0, s.1) (ap (λ ws. name ∷ ws) (sym (append_none words))), s.2, s.3, s.4)
@@ -216,20 +218,20 @@ bare_spells name words line s = (rw (s.0, s.1) (ap (λ ws. name ∷ ws) (sym (ap
     append_none [] = refl
     append_none (w ∷ ws) = ap (λ v. w ∷ v) (append_none ws)
 
-bare_as : (name : List ℕ) (words : List (List ℕ)) (o : Option Line) (w : Written) → ((line : Line) → o ≡ Some line → Says name words [] line) → without_bytes o ≡ Some w → SpellsAs (name ∷ words) w
-bare_as name words (Some line) w says h = subst (SpellsAs (name ∷ words)) (same_written (line, []) w h) (bare_spells name words line (says line refl))
+bare_as : (name : List ℕ) (words : List (List ℕ)) (o : Option Line) (w : Entry) → ((line : Line) → o ≡ Some line → Says name words [] line) → without_bytes o ≡ Some w → SpellsAs (name ∷ words) w
+bare_as name words (Some line) w says h = subst (SpellsAs (name ∷ words)) (same_Some (line, []) w h) (bare_spells name words line (says line refl))
 bare_as name words None w says h = absurd (cc)
 
 byte_spells : (name : List ℕ) (words : List (List ℕ)) (d : ℕ) (ds : List ℕ) (line : Line) → Says name words (d ∷ ds) line → Spells (name ∷ (words ++ (d ∷ ds) ∷ [])) line (d ∷ ds)
 byte_spells name words d ds line s = (rw (s.0, s.1) refl, s.2, s.3, s.4)
 
-byte_as : (name : List ℕ) (words : List (List ℕ)) (digits : List ℕ) (o : Option Line) (w : Written) → ((line : Line) → o ≡ Some line → 0 < length digits → Says name words digits line) → with_bytes digits o ≡ Some w → SpellsAs (name ∷ (words ++ digits ∷ [])) w
+byte_as : (name : List ℕ) (words : List (List ℕ)) (digits : List ℕ) (o : Option Line) (w : Entry) → ((line : Line) → o ≡ Some line → 0 < length digits → Says name words digits line) → with_bytes digits o ≡ Some w → SpellsAs (name ∷ (words ++ digits ∷ [])) w
 byte_as name words [] (Some line) w says h = absurd (cc)
 byte_as name words (d ∷ ds) (Some line) w says h =
-    subst (SpellsAs (name ∷ (words ++ (d ∷ ds) ∷ []))) (same_written (line, d ∷ ds) w (rw (some_length d ds) at h)) (byte_spells name words d ds line (says line refl (omega arith)))
+    subst (SpellsAs (name ∷ (words ++ (d ∷ ds) ∷ []))) (same_Some (line, d ∷ ds) w (rw (some_length d ds) at h)) (byte_spells name words d ds line (says line refl (omega arith)))
 byte_as name words digits None w says h = absurd (cc)
 
-pub line_sound : (words : List (List ℕ)) (w : Written) → line_of words ≡ Some w → SpellsAs words w
+pub line_sound : (words : List (List ℕ)) (w : Entry) → line_of words ≡ Some w → SpellsAs words w
 line_sound [] w h = absurd (cc)
 line_sound (name ∷ []) w h = absurd (cc)
 line_sound (name ∷ a ∷ []) w h = bare_as name (a ∷ []) (one_word name a) w (one_sound name a) h
@@ -247,28 +249,24 @@ line_sound (name ∷ a ∷ b ∷ c ∷ d ∷ e ∷ f ∷ ws) w h = absurd (cc)
 
 -- WHAT IS WRITTEN
 
-no_digits : (ds : List ℕ) → length ds ≡ 0 → ds ≡ []
-no_digits [] h = refl
-no_digits (d ∷ ds) h = absurd (omega arith)
-
 pub line_back : (line : Line) (ds : List ℕ) → FitsTypes line → HasReason line → CarriesItsBytes line ds → line_of (name_of line ∷ (words_of line ++ digit_words ds)) ≡ Some (line, ds)
-line_back (Took l s) ds fits reason carried = rw (no_digits ds carried, lane_back l, short_back s fits) refl
-line_back (Refused l s why) ds fits reason carried = rw (no_digits ds carried, lane_back l, short_back s fits, why_back why reason) refl
+line_back (Took l s) ds fits reason carried = rw (nil_from_length ds carried, lane_back l, short_back s fits) refl
+line_back (Refused l s why) ds fits reason carried = rw (nil_from_length ds carried, lane_back l, short_back s fits, why_back why reason) refl
 line_back (Made l k a b) (d ∷ ds) fits reason carried = rw (lane_back l, long_back k fits.0, long_back a fits.1, long_back b fits.2, some_length d ds) refl
 line_back (Made l k a b) [] fits reason carried = absurd (omega (arith, carried))
-line_back (Waited l) ds fits reason carried = rw (no_digits ds carried, lane_back l) refl
-line_back (Posted l) ds fits reason carried = rw (no_digits ds carried, lane_back l) refl
-line_back (Flying l k) ds fits reason carried = rw (no_digits ds carried, lane_back l, long_back k fits) refl
-line_back (Landed l k) ds fits reason carried = rw (no_digits ds carried, lane_back l, long_back k fits) refl
-line_back (Failed l k kind) ds fits reason carried = rw (no_digits ds carried, lane_back l, long_back k fits, kind_back kind) refl
-line_back (Marked l k c) ds fits reason carried = rw (no_digits ds carried, lane_back l, long_back k fits.0, short_back c fits.1) refl
-line_back (Cut l k c) ds fits reason carried = rw (no_digits ds carried, lane_back l, long_back k fits.0, short_back c fits.1) refl
-line_back (Dropped l a b c) ds fits reason carried = rw (no_digits ds carried, lane_back l, long_back a fits.0, long_back b fits.1, short_back c fits.2) refl
-line_back (TxHome l k) ds fits reason carried = rw (no_digits ds carried, lane_back l, long_back k fits) refl
-line_back (Opened l k) ds fits reason carried = rw (no_digits ds carried, lane_back l, long_back k fits) refl
+line_back (Waited l) ds fits reason carried = rw (nil_from_length ds carried, lane_back l) refl
+line_back (Posted l) ds fits reason carried = rw (nil_from_length ds carried, lane_back l) refl
+line_back (Flying l k) ds fits reason carried = rw (nil_from_length ds carried, lane_back l, long_back k fits) refl
+line_back (Landed l k) ds fits reason carried = rw (nil_from_length ds carried, lane_back l, long_back k fits) refl
+line_back (Failed l k kind) ds fits reason carried = rw (nil_from_length ds carried, lane_back l, long_back k fits, kind_back kind) refl
+line_back (Marked l k c) ds fits reason carried = rw (nil_from_length ds carried, lane_back l, long_back k fits.0, short_back c fits.1) refl
+line_back (Cut l k c) ds fits reason carried = rw (nil_from_length ds carried, lane_back l, long_back k fits.0, short_back c fits.1) refl
+line_back (Dropped l a b c) ds fits reason carried = rw (nil_from_length ds carried, lane_back l, long_back a fits.0, long_back b fits.1, short_back c fits.2) refl
+line_back (TxHome l k) ds fits reason carried = rw (nil_from_length ds carried, lane_back l, long_back k fits) refl
+line_back (Opened l k) ds fits reason carried = rw (nil_from_length ds carried, lane_back l, long_back k fits) refl
 line_back (Gave l n) (d ∷ ds) fits reason carried = rw (lane_back l, long_back n fits, some_length d ds) refl
 line_back (Gave l n) [] fits reason carried = absurd (omega (arith, carried))
-line_back (Recalled l) ds fits reason carried = rw (no_digits ds carried, lane_back l) refl
-line_back (Cleared l) ds fits reason carried = rw (no_digits ds carried, lane_back l) refl
-line_back (Control c f) ds fits reason carried = rw (no_digits ds carried, short_back c fits, flag_back f) refl
-line_back (Settled t1 r1 t2 r2) ds fits reason carried = rw (no_digits ds carried, short_back t1 fits.0, short_back r1 fits.1, short_back t2 fits.2, short_back r2 fits.3) refl
+line_back (Recalled l) ds fits reason carried = rw (nil_from_length ds carried, lane_back l) refl
+line_back (Cleared l) ds fits reason carried = rw (nil_from_length ds carried, lane_back l) refl
+line_back (Control c f) ds fits reason carried = rw (nil_from_length ds carried, short_back c fits, flag_back f) refl
+line_back (Settled t1 r1 t2 r2) ds fits reason carried = rw (nil_from_length ds carried, short_back t1 fits.0, short_back r1 fits.1, short_back t2 fits.2, short_back r2 fits.3) refl

@@ -1,7 +1,7 @@
 -- Digits of a number.
 use Rattle.std.proofs.Common.{ℕ, zero, suc, ◌+◌, ◌-◌, ◌*◌, ◌<◌, ◌≤◌, ◌≡◌, true, false, ◌==◌, ◌&&◌, not, nat_le, List, [], ◌∷◌, length, drop, slice_index, Some, None, refl, arith}
 use Rattle.std.proofs.lemmas.List.{drop_more, drop_all}
-use Rattle.std.proofs.lemmas.Bool.{and_parts}
+use Rattle.std.proofs.lemmas.Bool.{and_parts, le-leb}
 use Rattle.std.proofs.lemmas.Bool.Decides.{nat_tests}
 use Rattle.std.specs.List.{list_all}
 use Rattle.un_journal.specs.TraceWords.{has_leading_zero, number_from, is_digit, is_numeral, number_in}
@@ -45,14 +45,11 @@ numeral_digits w h =
     let outer = and_parts (list_all is_digit w && not (length w == 0)) (not (has_leading_zero w)) h in
     (and_parts (list_all is_digit w) (not (length w == 0)) outer.0).0
 
-pub at_most : (n most : ℕ) → n ≤ most → nat_le n most ≡ true
-at_most n most h = grind (arith, nat_tests)
-
 pub above : (n most : ℕ) → most < n → nat_le n most ≡ false
 above n most h = grind (arith, nat_tests)
 
 pub number_yes : (w : List ℕ) (most n : ℕ) → is_numeral w ≡ true → number_from 0 w ≡ n → n ≤ most → number_in most w ≡ Some n
-number_yes w most n holds same h = rw (holds, same, at_most n most h) refl
+number_yes w most n holds same h = rw (holds, same, le-leb n most h) refl
 
 pub number_no : (w : List ℕ) (most : ℕ) → is_numeral w ≡ true → most < number_from 0 w → number_in most w ≡ None
 number_no w most holds h = rw (holds, above (number_from 0 w) most h) refl

@@ -1,9 +1,11 @@
 -- A trace line after line: what has been read, and the first line that is outside.
-use Rattle.std.proofs.Common.{ℕ, zero, suc, ◌+◌, ◌<◌, ◌≡◌, ◌≢◌, Bool, true, false, ◌==◌, List, [], ◌∷◌, ◌++◌, length, take, drop, slice_index, codes, Some, None, ◌⊎◌, inl, inr, refl, sym, ap, ◌∙◌, subst, arith, append_assoc, append-nil, length-append}
+use Rattle.std.proofs.Common.{ℕ, zero, suc, ◌+◌, ◌<◌, ◌≡◌, ◌≢◌, true, false, ◌==◌, List, [], ◌∷◌, ◌++◌, length, take, drop, slice_index, codes, Some, None, ◌⊎◌, inl, inr, refl, sym, ap, ◌∙◌, subst, arith, append_assoc, append-nil, length-append}
 use Rattle.std.specs.List.{flat_map}
 use Rattle.std.specs.Str.{bytes_eq}
-use Rattle.std.proofs.lemmas.Bool.{eqb-true}
+use Rattle.std.proofs.lemmas.Bool.{eqb-true, false_from_ne_true}
 use Rattle.std.proofs.lemmas.Slice.Eq.{bytes_eq-Decides}
+use Rattle.std.proofs.lemmas.List.{nil_from_length}
+use Rattle.un_facts.proofs.Lists.{same_bytes}
 use Rattle.un_journal.specs.History.{Entry, History}
 use Rattle.un_journal.specs.declared.journal.Stored.{Stored}
 use Rattle.un_journal.specs.Log.{IsEntry, AreEntries, entries_of}
@@ -11,7 +13,6 @@ use Rattle.un_journal.specs.Text.{entry_text, trace}
 use Rattle.un_journal.specs.TraceLines.{entry_in}
 use Rattle.un_journal.specs.TraceRead.{BeginsTrace, feeds, IsWhole, IsFirstBad}
 use Rattle.un_journal.proofs.Entries.{are_more}
-use Rattle.un_journal.proofs.ReadFields.{same_bytes}
 use Rattle.un_journal.proofs.TextReads.{entries, ends_alone, body, cancel}
 use Rattle.un_journal.proofs.ReadEntries.{line_text_of, entry_sound, entry_complete, feeds_append, line_feeds, entry_line, history_feeds, cut_feed}
 
@@ -214,13 +215,9 @@ same_head text first more e same = behind_none text more (e ∙ ap (λ t. t ++ 1
 rest_as : (text : List ℕ) (h : History) (rest other : List ℕ) → rest ≡ other → Behind text h rest → Behind text h other
 rest_as text h rest other e b = (b.0, b.1 ∙ ap (λ t. front h ++ t) e)
 
-empty : (xs : List ℕ) → length xs ≡ 0 → xs ≡ []
-empty [] e = refl
-empty (x ∷ xs) e = absurd (omega arith)
-
 pub done : (text : List ℕ) (h : History) (rest line more : List ℕ) → Behind text h rest → rest ≡ line ++ 10 ∷ more → bytes_eq line (codes "end") ≡ true → length more ≡ 0 → trace h ≡ text
 done text h rest line more b e same none =
-    whole_trace text h (rest_as text h rest (codes "end\n") (e ∙ ap (λ t. t ++ 10 ∷ more) (same_bytes line (codes "end") same) ∙ ap (λ t. codes "end\n" ++ t) (empty more none)) b)
+    whole_trace text h (rest_as text h rest (codes "end\n") (e ∙ ap (λ t. t ++ 10 ∷ more) (same_bytes line (codes "end") same) ∙ ap (λ t. codes "end\n" ++ t) (nil_from_length more none)) b)
 
 pub late : (text : List ℕ) (h : History) (rest line more : List ℕ) → Behind text h rest → rest ≡ line ++ 10 ∷ more → bytes_eq line (codes "end") ≡ true → 0 < length more → IsFirstBad text (length h + 3)
 late text h rest line more b e same some =
@@ -237,23 +234,19 @@ grown text h g rest line more e b r read same =
 
 -- CUTTING A LINE
 
-not_true : (b : Bool) → (b ≡ true → ⊥) → b ≡ false
-not_true true h = absurd (h refl)
-not_true false h = refl
-
 pub line_cut : (xs : List ℕ) (i : ℕ) → i < length xs → ((k : ℕ) → k < i → (slice_index xs k == 10) ≡ true → ⊥) → (slice_index xs i == 10) ≡ true
     → (feeds (take i xs) ≡ 0) × (xs ≡ take i xs ++ 10 ∷ drop (suc i) xs)
 line_cut [] i within before here = absurd (omega arith)
 line_cut (c ∷ cs) zero within before here = (refl, ap (λ d. d ∷ cs) (eqb-true c 10 here))
 line_cut (c ∷ cs) (suc i) within before here =
-    let other = not_true (c == 10) (before 0 (omega arith)) in
+    let other = false_from_ne_true (c == 10) (before 0 (omega arith)) in
     let next = line_cut cs i (omega arith) (λ k h. before (suc k) (omega arith)) here in
     (rw other next.0, ap (λ t. c ∷ t) next.1)
 
 pub line_none : (xs : List ℕ) → ((k : ℕ) → k < length xs → (slice_index xs k == 10) ≡ true → ⊥) → feeds xs ≡ 0
 line_none [] none = refl
 line_none (c ∷ cs) none =
-    let other = not_true (c == 10) (none 0 (omega arith)) in
+    let other = false_from_ne_true (c == 10) (none 0 (omega arith)) in
     rw other (line_none cs (λ k h. none (suc k) (omega arith)))
 
 pub none_of : (kept : List ℕ) (lines : List Stored) → lines ≡ [] → entries_of kept lines ≡ []

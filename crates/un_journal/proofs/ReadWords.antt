@@ -1,15 +1,12 @@
 -- The words of a line, cut at its spaces, and put together again.
 use Rattle.std.proofs.Common.{ℕ, zero, suc, ◌<◌, ◌≡◌, Bool, true, false, ◌==◌, ◌++◌, if◌then◌else◌, List, [], ◌∷◌, None, length, take, drop, slice_index, refl, sym, ap, ◌∙◌, arith}
-use Rattle.std.proofs.lemmas.Bool.{eqb-true, ltb-true}
+use Rattle.std.proofs.lemmas.Bool.{eqb-true, ltb-true, false_from_ne_true}
 use Rattle.std.proofs.lemmas.Bool.Decides.{nat_tests}
+use Rattle.un_facts.proofs.Booleans.{and_first, and_second}
 use Rattle.un_journal.specs.Text.{spaced}
 use Rattle.un_journal.specs.TraceWords.{words_in, onto_first}
 use Rattle.un_journal.specs.TraceLines.{line_of, line_in}
-use Rattle.un_journal.proofs.TextCuts.{is_glyph, is_plain, are_plain, left, right}
-
-not_true : (b : Bool) → (b ≡ true → ⊥) → b ≡ false
-not_true true h = absurd (h refl)
-not_true false h = refl
+use Rattle.un_journal.proofs.TextCuts.{is_glyph, is_plain, are_plain}
 
 pub words_cut : (xs : List ℕ) (i : ℕ) → i < length xs → ((k : ℕ) → k < i → (slice_index xs k == 32) ≡ true → ⊥) → (slice_index xs i == 32) ≡ true
     → words_in xs ≡ take i xs ∷ words_in (drop (suc i) xs)
@@ -17,7 +14,7 @@ unfolding words_in
 words_cut [] i within before here = absurd (omega arith)
 words_cut (c ∷ cs) zero within before here = rw here refl
 words_cut (c ∷ cs) (suc i) within before here =
-    let other = not_true (c == 32) (before 0 (omega arith)) in
+    let other = false_from_ne_true (c == 32) (before 0 (omega arith)) in
     let next = words_cut cs i (omega arith) (λ k h. before (suc k) (omega arith)) here in
     rw (other, next) refl
 
@@ -25,7 +22,7 @@ pub words_whole : (xs : List ℕ) → ((k : ℕ) → k < length xs → (slice_in
 unfolding words_in
 words_whole [] none = refl
 words_whole (c ∷ cs) none =
-    let other = not_true (c == 32) (none 0 (omega arith)) in
+    let other = false_from_ne_true (c == 32) (none 0 (omega arith)) in
     let next = words_whole cs (λ k h. none (suc k) (omega arith)) in
     rw (other, next) refl
 
@@ -33,7 +30,7 @@ pub heard : (text : List ℕ) (words : List (List ℕ)) → words_in text ≡ wo
 unfolding line_in
 heard text words e = rw e refl
 
-onto_some : (c : ℕ) (ps : List (List ℕ)) → (w : List ℕ) × (ws : List (List ℕ)) × (onto_first c ps ≡ w ∷ ws)
+pub onto_some : (c : ℕ) (ps : List (List ℕ)) → (w : List ℕ) × (ws : List (List ℕ)) × (onto_first c ps ≡ w ∷ ws)
 onto_some c [] = (c ∷ [], [], refl)
 onto_some c (p ∷ ps) = (c ∷ p, ps, refl)
 
@@ -87,12 +84,12 @@ no_space c above = let over = ltb-true 32 c above in grind (arith, nat_tests)
 word_then : (w tail : List ℕ) (ws : List (List ℕ)) → is_plain w ≡ true → words_in tail ≡ [] ∷ ws → words_in (w ++ tail) ≡ w ∷ ws
 unfolding words_in
 word_then [] tail ws p e = e
-word_then (c ∷ w) tail ws p e = rw (no_space c (left (is_glyph c) (is_plain w) p), word_then w tail ws (right (is_glyph c) (is_plain w) p) e) refl
+word_then (c ∷ w) tail ws p e = rw (no_space c (and_first (is_glyph c) (is_plain w) p), word_then w tail ws (and_second (is_glyph c) (is_plain w) p) e) refl
 
 spaced_words : (ws : List (List ℕ)) → are_plain ws ≡ true → words_in (spaced ws) ≡ [] ∷ ws
 unfolding words_in
 spaced_words [] p = refl
-spaced_words (w ∷ ws) p = ap (λ vs. [] ∷ vs) (word_then w (spaced ws) ws (left (is_plain w) (are_plain ws) p) (spaced_words ws (right (is_plain w) (are_plain ws) p)))
+spaced_words (w ∷ ws) p = ap (λ vs. [] ∷ vs) (word_then w (spaced ws) ws (and_first (is_plain w) (are_plain ws) p) (spaced_words ws (and_second (is_plain w) (are_plain ws) p)))
 
 pub parted : (w : List ℕ) (ws : List (List ℕ)) → is_plain w ≡ true → are_plain ws ≡ true → words_in (w ++ spaced ws) ≡ w ∷ ws
 parted w ws p q = word_then w (spaced ws) ws p (spaced_words ws q)

@@ -4,23 +4,23 @@ use Rattle.std.specs.List.{sum_by}
 use Rattle.std.proofs.lemmas.Bool.{eq-eqb, cases_lt}
 use Rattle.std.proofs.lemmas.List.Sums.{sum_by-cons, sum_by-append}
 use Rattle.std.proofs.lemmas.List.{length-drop, length-take-le, take-append-le}
+use Rattle.un_facts.proofs.Lists.{no_length}
 use Rattle.un_frame.specs.declared.params.Lane.{Lane}
 use Rattle.un_frame.specs.declared.params.Lane.TheVariants.{Outward, Inward}
 use Rattle.un_frame.specs.Wire.{form}
 use Rattle.un_journal.specs.declared.lines.Line.TheVariants.{Took, Refused, Made, Dropped, Gave}
 use Rattle.un_journal.specs.Script.{Script, Frame, feeds_of, frames_of}
-use Rattle.un_journal.specs.History.{History, past, concerns, taken, consumed, made, cover, more_if, is_empty}
+use Rattle.un_journal.specs.History.{History, past, concerns, taken, consumed, made, cover, more_if}
 use Rattle.un_journal.specs.Lookup.{feed_head, datagrams}
 use Rattle.un_journal.specs.Bytes.{AreDatagrams, bytes_in, byte_bound}
 use Rattle.un_journal.proofs.Transfers.{AreFrames, WireHolds}
 use Rattle.un_journal.specs.Sound.{IsSound}
 use Rattle.un_journal.specs.Fits.{Legal}
 use Rattle.un_journal.proofs.Given.{front, in_front, next_above, cover_below}
-use Rattle.un_journal.proofs.Legal.{empty_is}
 use Rattle.un_journal.proofs.Steps.{legal_good}
 use Rattle.un_journal.proofs.Onto.{onto, reverse_onto}
 use Rattle.un_journal.proofs.Rules.{AllRuled, legal_ruled}
-use Rattle.un_journal.proofs.Homes.{AllLane, lane_ruled}
+use Rattle.un_journal.proofs.Homes.{AllLane, lane_ruled, more_least}
 use Rattle.un_journal.proofs.Bound.{total, head_within}
 use Rattle.un_journal.proofs.Formed.{count_datagrams, frames_more, frames_within, frames_taken, good_length, legal_formed}
 use Rattle.un_journal.proofs.NoLoss.{take_one}
@@ -162,10 +162,6 @@ total_feeds f w s (x ∷ xs) h =
     none : s + 0 ≡ s
     none = omega arith
 
-more_at_least : (b : Bool) (n : ℕ) → n ≤ more_if b n
-more_at_least true n = omega arith
-more_at_least false n = omega arith
-
 module _ (w : Frame → ℕ) (script : Script) (l : Lane) where
   accepted_used : (g : History) → AllLane script l g → sum_by w (datagrams script l g) ≤ total (λ i. sum_by w (take (consumed g i) (frames_of script l i))) 0 (feeds_of script l)
   accepted_used [] all = omega arith
@@ -176,14 +172,14 @@ module _ (w : Frame → ℕ) (script : Script) (l : Lane) where
       let last : sum_by w (take (consumed g s + 1) (frames_of script l s)) ≡ sum_by w (take (consumed g s) (frames_of script l s)) + w r.frame = take_last w (consumed g s) (frames_of script l s) r.frame r.is_head in
       let added : total (λ i. sum_by w (take (consumed g i) (frames_of script l i))) 0 (feeds_of script l) + w r.frame ≤ total (λ i. sum_by w (take (more_if (s == i) (consumed g i)) (frames_of script l i))) 0 (feeds_of script l) =
       total_add (λ i. sum_by w (take (consumed g i) (frames_of script l i))) (λ i. sum_by w (take (more_if (s == i) (consumed g i)) (frames_of script l i))) (w r.frame) s 0 (feeds_of script l) (omega arith) (omega arith)
-      (λ i. take_more w (consumed g i) (more_if (s == i) (consumed g i)) (frames_of script l i) (more_at_least (s == i) (consumed g i))) (rw (eq-eqb s s refl) (omega arith)) in
+      (λ i. take_more w (consumed g i) (more_if (s == i) (consumed g i)) (frames_of script l i) (more_least (s == i) (consumed g i))) (rw (eq-eqb s s refl) (omega arith)) in
       let new : sum_by w (datagrams script l g ++ r.frame ∷ []) ≡ sum_by w (datagrams script l g) + w r.frame = last_sum w (datagrams script l g) r.frame in
       rw r.is_head (omega arith)
   accepted_used ((Refused l' s why, bytes) ∷ g) all =
       let before : sum_by w (datagrams script l g) ≤ total (λ i. sum_by w (take (consumed g i) (frames_of script l i))) 0 (feeds_of script l) = accepted_used g all.1 in
       let more : total (λ i. sum_by w (take (consumed g i) (frames_of script l i))) 0 (feeds_of script l) ≤ total (λ i. sum_by w (take (more_if (s == i) (consumed g i)) (frames_of script l i))) 0 (feeds_of script l) =
       total_less (λ i. sum_by w (take (consumed g i) (frames_of script l i))) (λ i. sum_by w (take (more_if (s == i) (consumed g i)) (frames_of script l i))) 0 (feeds_of script l)
-      (λ i. take_more w (consumed g i) (more_if (s == i) (consumed g i)) (frames_of script l i) (more_at_least (s == i) (consumed g i))) in omega arith
+      (λ i. take_more w (consumed g i) (more_if (s == i) (consumed g i)) (frames_of script l i) (more_least (s == i) (consumed g i))) in omega arith
   accepted_used (e ∷ g) all = accepted_used g all.1
 
   accepted_room : (g : History) → AllLane script l g → sum_by w (datagrams script l g) ≤ sum_by (sum_by w) (feeds_of script l)
@@ -198,9 +194,6 @@ module _ (w : Frame → ℕ) (script : Script) (l : Lane) where
 
 -- BOTH LANES
 
-no_bytes : (bytes : List ℕ) → is_empty bytes ≡ true → length bytes ≡ 0
-no_bytes bytes e = ap length (empty_is bytes e)
-
 all_bytes : (script : Script) (older : History) → AllRuled script older → bytes_in older ≡ made_size (filter (concerns Outward) older) + gave_size (filter (concerns Outward) older) + (made_size (filter (concerns Inward) older) + gave_size (filter (concerns Inward) older))
 all_bytes script [] all = refl
 all_bytes script ((Made Outward k a b, bytes) ∷ older) all = let e : bytes_in older ≡ made_size (filter (concerns Outward) older) + gave_size (filter (concerns Outward) older) + (made_size (filter (concerns Inward) older) + gave_size (filter (concerns Inward) older)) = all_bytes script older all.1 in omega arith
@@ -209,7 +202,7 @@ all_bytes script ((Gave Outward n, bytes) ∷ older) all = let e : bytes_in olde
 all_bytes script ((Gave Inward n, bytes) ∷ older) all = let e : bytes_in older ≡ made_size (filter (concerns Outward) older) + gave_size (filter (concerns Outward) older) + (made_size (filter (concerns Inward) older) + gave_size (filter (concerns Inward) older)) = all_bytes script older all.1 in omega arith
 all_bytes script ((line, bytes) ∷ older) all =
     let e : bytes_in older ≡ made_size (filter (concerns Outward) older) + gave_size (filter (concerns Outward) older) + (made_size (filter (concerns Inward) older) + gave_size (filter (concerns Inward) older)) = all_bytes script older all.1 in
-    let none : length bytes ≡ 0 = no_bytes bytes all.0.is_bare in
+    let none : length bytes ≡ 0 = no_length bytes all.0.is_bare in
     go (concerns Outward (line, bytes)) (concerns Inward (line, bytes)) (omega arith)
   where
     go : (p q : Bool) → bytes_in older + length bytes ≡ made_size (filter (concerns Outward) older) + gave_size (filter (concerns Outward) older) + (made_size (filter (concerns Inward) older) + gave_size (filter (concerns Inward) older))

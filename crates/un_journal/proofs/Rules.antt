@@ -1,26 +1,28 @@
 -- What every line of a legal history needs of the script, of the phase and of its lane's lines before it.
 use Rattle.std.proofs.Common.{◌≡◌, ◌≢◌, ℕ, zero, suc, ◌+◌, ◌-◌, ◌<◌, ◌≤◌, Bool, true, false, not, ◌&&◌, ◌||◌, ◌==◌, List, [], ◌∷◌, ◌++◌, Option, Some, None, ◌⊎◌, inl, inr, refl, sym, ap, ◌∙◌, subst, arith, if◌then◌else◌, slice_get, filter, reverse, append-nil, nat_lt, is_some, take}
 use Rattle.std.proofs.lemmas.Bool.{false≢true, eqb-true, and_parts, lt-ltb, ne_eqb}
+use Rattle.un_frame.proofs.LaneLemmas.{same_lane-is}
+use Rattle.un_facts.specs.Lists.{is_empty}
 use Rattle.un_frame.specs.declared.params.Lane.{Lane}
 use Rattle.un_frame.specs.declared.params.Lane.TheVariants.{Outward, Inward}
 use Rattle.un_frame.specs.declared.kinds.Phase.{Phase}
 use Rattle.un_frame.specs.declared.kinds.Phase.TheVariants.{Up, Asleep, Stopping, Leaving, Down, Away}
 use Rattle.un_frame.specs.declared.kinds.Verdict.{Verdict}
-use Rattle.un_frame.specs.Lanes.{same_lane, packs}
+use Rattle.un_frame.specs.Lanes.{same_lane, packs, tx_size, rx_size}
 use Rattle.un_frame.specs.Verdict.{verdict_of}
 use Rattle.un_frame.specs.Wire.{form}
 use Rattle.un_journal.specs.declared.lines.Line.{Line}
 use Rattle.un_journal.specs.declared.lines.Line.TheVariants.{Took, Refused, Made, Waited, Posted, Flying, Landed, Failed, Marked, Cut, Dropped, Gave, Recalled, Cleared, Settled}
 use Rattle.un_journal.specs.declared.controls.Control.{Control as Order}
 use Rattle.un_journal.specs.declared.controls.Due.{Due}
-use Rattle.un_journal.specs.Script.{Script, Frame, planned, tx_size, rx_size}
-use Rattle.un_journal.specs.History.{Entry, History, past, concerns, those, first, taken, made, cover, built, posted, flies, waits, mark, halted, told_if, current, left_of, is_empty}
+use Rattle.un_journal.specs.Script.{Script, Frame, planned}
+use Rattle.un_journal.specs.History.{Entry, History, past, concerns, those, first, taken, made, cover, built, posted, flies, waits, mark, halted, told_if, current, left_of}
 use Rattle.un_journal.specs.Lookup.{phase_of, phase_after, after_order, after_control, works, is_awake, is_asleep, is_stopping, is_leaving, controls_done, feed_head, built_frames, block_open, block_claims, span_after_took, tx_home, rx_home, offer_needs_home, tick_needs_home, pending, deferred, unmarked, is_deferring}
 use Rattle.un_journal.specs.Licence.{IsOrder}
 use Rattle.un_journal.specs.LaneSteps.{bare, datagram_bytes}
 use Rattle.un_journal.specs.Step.{made_if, cut_each, marked_each, recalled_each, dropped_built, order_lines, all_home}
 use Rattle.un_journal.specs.Fits.{Act, Fits, takes, refuses, waits_once, closes, begins_flight, cuts_queued, lands, fails, cuts_flight, comes_home, opens, gives, posts_one, marks, recalls_one, clears, settles, orders, orders_forced, Legal, begins, goes_on, after_took}
-use Rattle.un_journal.proofs.Lists.{same_lane_true, those_first}
+use Rattle.un_journal.proofs.Lists.{those_first}
 use Rattle.un_journal.proofs.Onto.{onto, onto_append, reverse_onto, filter_append, AllOf, filter_of, newest}
 use Rattle.un_journal.proofs.Given.{cover_below}
 use Rattle.un_journal.proofs.Steps.{legal_good}
@@ -157,7 +159,7 @@ own_lines : (script : Script) (lane : Lane) (lines h : History) → AllRuled scr
 own_lines script lane lines h all s o r =
     subst (AllRuled script) (sym (reverse_onto lines h))
     (ruled_lines script (phase_of script h) lines (reverse h) s refl all
-    (λ l. rw (filter_of lane l lines o) (of_own script (phase_of script h) (same_lane l lane) l lane lines (λ i. past i h) (same_lane_true l lane) r)))
+    (λ l. rw (filter_of lane l lines o) (of_own script (phase_of script h) (same_lane l lane) l lane lines (λ i. past i h) (same_lane-is l lane) r)))
 
 -- MANY LINES
 
@@ -246,19 +248,19 @@ onto_dropped f lane c same g g' = go (built g == 0)
     go false = same (cover g) (taken g) g'
 
 -- these are lines of one lane, and change no phase
-cut_of : (lane : Lane) (c : ℕ) (ks : List ℕ) → AllOf lane (cut_each lane c ks)
+pub cut_of : (lane : Lane) (c : ℕ) (ks : List ℕ) → AllOf lane (cut_each lane c ks)
 cut_of lane c [] = tt
 cut_of lane c (k ∷ ks) = (λ l. refl, cut_of lane c ks)
 
-marked_of : (lane : Lane) (c : ℕ) (ks : List ℕ) → AllOf lane (marked_each lane c ks)
+pub marked_of : (lane : Lane) (c : ℕ) (ks : List ℕ) → AllOf lane (marked_each lane c ks)
 marked_of lane c [] = tt
 marked_of lane c (k ∷ ks) = (λ l. refl, marked_of lane c ks)
 
-recalled_of : (lane : Lane) (n : ℕ) → AllOf lane (recalled_each lane n)
+pub recalled_of : (lane : Lane) (n : ℕ) → AllOf lane (recalled_each lane n)
 recalled_of lane zero = tt
 recalled_of lane (suc n) = (λ l. refl, recalled_of lane n)
 
-dropped_of : (lane : Lane) (c : ℕ) (g : History) → AllOf lane (dropped_built lane c g)
+pub dropped_of : (lane : Lane) (c : ℕ) (g : History) → AllOf lane (dropped_built lane c g)
 dropped_of lane c g = go (built g == 0)
   where
     go : (b : Bool) → AllOf lane (if b then [] else (bare (Dropped lane (cover g) (taken g) c) ∷ []))
@@ -487,7 +489,7 @@ order_ruled script h f due all e p =
     picked Outward = order_rules script due.control (phase_of script h) Outward (controls_done (reverse h)) (past Outward h)
     picked Inward = order_rules script due.control (phase_of script h) Inward (controls_done (reverse h)) (past Inward h)
 
-home_four : (a b c d : ℕ × ℕ) → ((a.0 == a.1) && (b.0 == b.1) && (c.0 == c.1) && (d.0 == d.1)) ≡ true → (a.0 ≡ a.1) × (b.0 ≡ b.1) × (c.0 ≡ c.1) × (d.0 ≡ d.1)
+pub home_four : (a b c d : ℕ × ℕ) → ((a.0 == a.1) && (b.0 == b.1) && (c.0 == c.1) && (d.0 == d.1)) ≡ true → (a.0 ≡ a.1) × (b.0 ≡ b.1) × (c.0 ≡ c.1) × (d.0 ≡ d.1)
 home_four a b c d e =
     let p = and_parts (((a.0 == a.1) && (b.0 == b.1)) && (c.0 == c.1)) (d.0 == d.1) e in
     let q = and_parts ((a.0 == a.1) && (b.0 == b.1)) (c.0 == c.1) p.0 in
@@ -546,3 +548,8 @@ pub legal_ruled : (script : Script) (h : History) → Legal script h → AllRule
 legal_ruled script h begins = tt
 legal_ruled script h (goes_on h0 lines act legal fits) =
     step_ruled script h0 lines act (λ l. cover_below (past l h0) ((legal_good script h0 legal).sound l)) (legal_ruled script h0 legal) fits
+
+-- what lies below ruled lines is ruled
+pub ruled_base : (script : Script) (lines older : History) → AllRuled script (onto lines older) → AllRuled script older
+ruled_base script [] older all = all
+ruled_base script (e ∷ es) older all = (ruled_base script es (e ∷ older) all).1

@@ -1,7 +1,11 @@
 -- Where every request is at home and the link is away with no control left, no step fits: its settled line is its last.
 use Rattle.std.proofs.Common.{◌≡◌, ℕ, ◌+◌, ◌-◌, ◌<◌, ◌≤◌, Bool, true, false, not, ◌&&◌, ◌||◌, ◌==◌, [], ◌∷◌, ◌++◌, length, Option, Some, None, inl, inr, refl, sym, ap, ◌∙◌, subst, arith, if◌then◌else◌, reverse, slice_get}
-use Rattle.std.proofs.lemmas.Bool.{false≢true, eqb-true, eq-eqb, ne_eqb, cases_lt, and_parts, or_cases}
-use Rattle.std.proofs.lemmas.Option.{slice_get_past}
+use Rattle.std.proofs.lemmas.Bool.{false≢true, eqb-true, eq-eqb, ne_eqb, cases_lt, and_parts, or_cases, not-true}
+use Rattle.std.proofs.lemmas.Option.{slice_get_past, none-some, same_Some}
+use Rattle.un_facts.proofs.Lists.{empty_is}
+use Rattle.un_facts.specs.Lists.{is_empty}
+use Rattle.un_facts.specs.Numbers.{one_if}
+use Rattle.un_frame.specs.Lanes.{tx_size, rx_size}
 use Rattle.un_frame.specs.declared.params.Lane.{Lane}
 use Rattle.un_frame.specs.declared.params.Lane.TheVariants.{Outward, Inward}
 use Rattle.un_frame.specs.declared.kinds.Phase.{Phase}
@@ -10,8 +14,8 @@ use Rattle.un_journal.specs.declared.lines.Line.{Line}
 use Rattle.un_journal.specs.declared.lines.Line.TheVariants.{Made}
 use Rattle.un_journal.specs.declared.controls.Control.{Control as Order}
 use Rattle.un_journal.specs.declared.controls.Due.{Due}
-use Rattle.un_journal.specs.Script.{Script, tx_size, rx_size}
-use Rattle.un_journal.specs.History.{Entry, History, past, those, first, made, built, posted, flies, waits, ended, landed, opened, span, serial_of, arrived, current, left_of, is_empty, delivered, returned}
+use Rattle.un_journal.specs.Script.{Script}
+use Rattle.un_journal.specs.History.{Entry, History, past, those, first, made, built, posted, flies, waits, ended, landed, opened, span, serial_of, arrived, current, left_of, delivered, returned, ends}
 use Rattle.un_journal.specs.Lookup.{phase_of, phase_after, after_order, after_control, works, is_awake, is_stopping, is_leaving, controls_done, tx_home, rx_home, queued}
 use Rattle.un_journal.specs.LaneSteps.{bare}
 use Rattle.un_journal.specs.Step.{all_home, settled_line}
@@ -19,17 +23,16 @@ use Rattle.un_journal.specs.Done.{is_gone}
 use Rattle.un_journal.specs.Sound.{IsSound}
 use Rattle.un_journal.specs.Fits.{Act, Fits, takes, refuses, waits_once, closes, begins_flight, cuts_queued, lands, fails, cuts_flight, comes_home, opens, gives, posts_one, marks, recalls_one, clears, settles, orders, orders_forced, Legal, begins, goes_on, after_took}
 use Rattle.un_journal.specs.Unplug.{EndsSettled}
-use Rattle.un_journal.proofs.Lists.{those_first, some_same, none≢some}
-use Rattle.un_journal.proofs.Order.{ends, is_up}
-use Rattle.un_journal.proofs.Legal.{landed_made, empty_is, not_true, owns_span, has_span, whole_gave}
+use Rattle.un_journal.proofs.Lists.{those_first}
+use Rattle.un_journal.proofs.Order.{is_up}
+use Rattle.un_journal.proofs.Legal.{landed_made, owns_span, has_span, whole_gave}
 use Rattle.un_journal.proofs.Numbers.{opened_landed, GivenFrom, given_from}
 use Rattle.un_journal.proofs.Steps.{legal_good}
 use Rattle.un_journal.proofs.Unique.{pending_built}
 use Rattle.un_journal.proofs.Delivery.{those_count}
 use Rattle.un_journal.proofs.Onto.{past_onto, reverse_onto}
-use Rattle.un_journal.proofs.Rules.{AreStill, order_still, made_still}
-use Rattle.un_journal.proofs.Homes.{legal_sums, one_if, landings, landed_count, those_less, delivered_landed, up_of, returned_ends, ends_made, ended_below, below_ended}
-use Rattle.un_journal.proofs.Licences.{home_parts}
+use Rattle.un_journal.proofs.Rules.{AreStill, order_still, made_still, home_four}
+use Rattle.un_journal.proofs.Homes.{legal_sums, landings, landed_count, those_less, delivered_landed, up_of, returned_ends, ends_made, ended_below, below_ended}
 use Rattle.un_journal.proofs.Calm.{legal_calm, still_phases}
 use Rattle.un_journal.proofs.LaneFacts.{controls_kept, controls_onto}
 
@@ -73,7 +76,7 @@ span_some ((Made l j a b, bytes) ∷ g) sound k low = elim (cases_lt k (made g))
 span_some (e ∷ g) sound k low = span_some g sound.1 k low
 
 unopened_left : (g : History) → IsSound g → (k : ℕ) → landed g k ≡ true → opened g k ≡ false → left_of g k ≡ [] → ⊥
-unopened_left g sound k l o none = false≢true (sym o ∙ subst (λ i. opened g i ≡ true) (some_same r.serial k (sym r.is_owner ∙ mine)) r.was_opened)
+unopened_left g sound k l o none = false≢true (sym o ∙ subst (λ i. opened g i ≡ true) (same_Some r.serial k (sym r.is_owner ∙ mine)) r.was_opened)
   where
     s : HasSome (span g k)
     s = span_some g sound k (landed_made g sound k l)
@@ -85,7 +88,7 @@ unopened_left g sound k l o none = false≢true (sym o ∙ subst (λ i. opened g
     r = given_from g sound s.from (whole_gave g k s.from (ap is_empty none) (has_span g sound s.from k mine))
 
 waits_open : (f x : Bool) → (not f && not x) ≡ true → x ≡ true → ⊥
-waits_open f x e p = false≢true (sym (not_true x (and_parts (not f) (not x) e).1) ∙ p)
+waits_open f x e p = false≢true (sym (not-true x (and_parts (not f) (not x) e).1) ∙ p)
 
 module _ (script : Script) (h : History) (legal : Legal script h) (gone : phase_of script h ≡ Away) (home : all_home script h ≡ true) where
   sound : (l : Lane) → IsSound (past l h)
@@ -93,7 +96,7 @@ module _ (script : Script) (h : History) (legal : Legal script h) (gone : phase_
 
   homes : (l : Lane) → rx_home script.params l (past l h) ≡ rx_size script.params l
   homes l = pick l (
-      home_parts (tx_home script.params Outward (past Outward h), tx_size script.params Outward) (rx_home script.params Outward (past Outward h), rx_size script.params Outward)
+      home_four (tx_home script.params Outward (past Outward h), tx_size script.params Outward) (rx_home script.params Outward (past Outward h), rx_size script.params Outward)
       (tx_home script.params Inward (past Inward h), tx_size script.params Inward) (rx_home script.params Inward (past Inward h), rx_size script.params Inward) home
       )
     where
@@ -140,13 +143,13 @@ module _ (script : Script) (h : History) (legal : Legal script h) (gone : phase_
       r = and_parts (landed (past l h) k) (not (opened (past l h) k)) (those_first (λ j. landed (past l h) j && not (opened (past l h) j)) (made (past l h)) k e).passes
 
       none : ⊥
-      none = unopened_left (past l h) (sound l) k r.0 (not_true (opened (past l h) k) r.1) (given_whole l k r.0)
+      none = unopened_left (past l h) (sound l) k r.0 (not-true (opened (past l h) k) r.1) (given_whole l k r.0)
 
   none_current : (l : Lane) (k n : ℕ) → current (past l h) ≡ Some k → first (left_of (past l h) k) ≡ Some n → ⊥
   none_current l k n c e =
       let f = those_first (λ j. opened (past l h) j && not (is_empty (left_of (past l h) j))) (made (past l h)) k c in
       let o : opened (past l h) k ≡ true = (and_parts (opened (past l h) k) _ f.passes).0 in
-      none≢some n (sym (ap first (given_whole l k (opened_landed (past l h) (sound l) k o))) ∙ e)
+      none-some n (sym (ap first (given_whole l k (opened_landed (past l h) (sound l) k o))) ∙ e)
 
   resting : (P : Phase → Bool) → P Away ≡ false → P (phase_of script h) ≡ true → ⊥
   resting P w e = false≢true (sym w ∙ (sym (ap P gone) ∙ e))

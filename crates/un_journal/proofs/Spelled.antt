@@ -1,8 +1,10 @@
 -- Every line of a legal history carries bytes as its kind says, and is licensed at its place.
-use Rattle.std.proofs.Common.{◌≡◌, ℕ, ◌+◌, ◌-◌, ◌<◌, ◌≤◌, Bool, true, false, List, [], ◌∷◌, ◌++◌, length, sym, ap, subst, arith, if◌then◌else◌, filter, reverse, take, drop, length-append, ◌==◌, ◌%◌, flat_map, slice_get, Some, zero, suc}
+use Rattle.std.proofs.Common.{◌≡◌, ℕ, ◌+◌, ◌-◌, ◌<◌, ◌≤◌, Bool, true, false, List, [], ◌∷◌, ◌++◌, length, sym, subst, arith, if◌then◌else◌, filter, reverse, take, drop, length-append, ◌==◌, ◌%◌, flat_map, slice_get, Some, zero, suc}
 use Rattle.std.proofs.lemmas.Bool.{false≢true}
 use Rattle.std.proofs.lemmas.List.{length-drop, length-take-le, reverse-reverse}
 use Rattle.std.specs.List.{AllByRecursion, concat}
+use Rattle.un_frame.proofs.LaneLemmas.{same_lane-refl}
+use Rattle.un_facts.proofs.Lists.{no_length}
 use Rattle.un_frame.specs.declared.params.Lane.{Lane}
 use Rattle.un_frame.specs.declared.params.Params.{Params}
 use Rattle.un_frame.specs.declared.params.Class.{Class}
@@ -14,17 +16,16 @@ use Rattle.un_journal.specs.declared.lines.Line.{Line}
 use Rattle.un_journal.specs.declared.lines.Line.TheVariants.{Refused, Made, Gave, Settled}
 use Rattle.un_journal.specs.Log.{HasReason, CarriesItsBytes}
 use Rattle.un_journal.specs.Script.{Script, Frame}
-use Rattle.un_journal.specs.History.{Entry, History, past, concerns, taken, made, cover, is_empty}
+use Rattle.un_journal.specs.History.{Entry, History, past, concerns, taken, made, cover}
 use Rattle.un_journal.specs.Lookup.{datagrams}
 use Rattle.un_journal.specs.Sound.{IsSound}
 use Rattle.un_journal.specs.Bytes.{AreDatagrams}
 use Rattle.un_journal.specs.Fits.{Legal}
 use Rattle.un_journal.specs.Licence.{Licensed, FindsHome}
 use Rattle.un_journal.proofs.Transfers.{AreFrames, WireHolds}
-use Rattle.un_journal.proofs.Legal.{empty_is}
-use Rattle.un_journal.proofs.Steps.{legal_good, same_lane_same}
+use Rattle.un_journal.proofs.Steps.{legal_good}
 use Rattle.un_journal.proofs.Onto.{onto, reverse_onto, past_onto}
-use Rattle.un_journal.proofs.Rules.{Rule, AllRuled, legal_ruled}
+use Rattle.un_journal.proofs.Rules.{Rule, AllRuled, legal_ruled, ruled_base}
 use Rattle.un_journal.proofs.Homes.{AllLane, lane_ruled}
 use Rattle.un_journal.proofs.Licences.{AllLicensed, legal_licensed}
 use Rattle.un_journal.proofs.Room.{lane_frames}
@@ -47,13 +48,9 @@ pub settled_at : (script : Script) (before after : History) (t1 r1 t2 r2 : ℕ) 
 settled_at script before after t1 r1 t2 r2 bytes legal =
     subst (λ i. FindsHome script i t1 r1 t2 r2) (reverse-reverse before) (licensed_at script before after (Settled t1 r1 t2 r2, bytes) legal)
 
-under_ruled : (script : Script) (lines g : History) → AllRuled script (onto lines g) → AllRuled script g
-under_ruled script [] g all = all
-under_ruled script (x ∷ lines) g all = (under_ruled script lines (x ∷ g) all).1
-
 ruled_at : (script : Script) (before after : History) (e : Entry) → Legal script (before ++ e ∷ after) → Rule script e (reverse before)
 ruled_at script before after e legal =
-    (under_ruled script after (e ∷ reverse before) (subst (AllRuled script) (split before after e) (legal_ruled script (before ++ e ∷ after) legal))).0
+    (ruled_base script after (e ∷ reverse before) (subst (AllRuled script) (split before after e) (legal_ruled script (before ++ e ∷ after) legal))).0
 
 under_all : (P : Entry → Type 0) (lines g : History) → AllByRecursion P (onto lines g) → AllByRecursion P g
 under_all P [] g all = all
@@ -126,12 +123,9 @@ lane_carries script h l wire legal =
     all : AllLane script l (past l h)
     all = lane_ruled script (reverse h) (legal_ruled script h legal) l
 
-bare_is : (bytes : List ℕ) → is_empty bytes ≡ true → length bytes ≡ 0
-bare_is bytes e = ap length (empty_is bytes e)
-
 pub spelled_at : (script : Script) (before after : History) (line : Line) (bytes : List ℕ) → WireHolds script.params → Legal script (before ++ (line, bytes) ∷ after) → HasReason line × CarriesItsBytes line bytes
-spelled_at script before after (Made l k a b) bytes wire legal = (tt, lane_at Carries l before after (Made l k a b, bytes) (same_lane_same l) (lane_carries script _ l wire legal))
-spelled_at script before after (Gave l n) bytes wire legal = (tt, lane_at Carries l before after (Gave l n, bytes) (same_lane_same l) (lane_carries script _ l wire legal))
+spelled_at script before after (Made l k a b) bytes wire legal = (tt, lane_at Carries l before after (Made l k a b, bytes) (same_lane-refl l) (lane_carries script _ l wire legal))
+spelled_at script before after (Gave l n) bytes wire legal = (tt, lane_at Carries l before after (Gave l n, bytes) (same_lane-refl l) (lane_carries script _ l wire legal))
 spelled_at script before after (Refused l s why) bytes wire legal =
-    let r = ruled_at script before after (Refused l s why, bytes) legal in ((r.of_lane l (same_lane_same l)).not_taken, bare_is bytes r.is_bare)
-spelled_at script before after line bytes wire legal = (tt, bare_is bytes (ruled_at script before after (line, bytes) legal).is_bare)
+    let r = ruled_at script before after (Refused l s why, bytes) legal in ((r.of_lane l (same_lane-refl l)).not_taken, no_length bytes r.is_bare)
+spelled_at script before after line bytes wire legal = (tt, no_length bytes (ruled_at script before after (line, bytes) legal).is_bare)

@@ -1,7 +1,9 @@
 -- Every step that fits keeps each lane sound.
 use Rattle.std.proofs.Common.{◌≡◌, ℕ, zero, suc, ◌+◌, ◌-◌, ◌<◌, ◌≤◌, Bool, true, false, not, ◌&&◌, ◌||◌, ◌==◌, List, [], ◌∷◌, ◌++◌, length, Option, Some, None, inl, inr, refl, sym, ap, ◌∙◌, subst, arith, if◌then◌else◌, reverse, append_assoc, append-nil, nat_lt, slice_get}
-use Rattle.std.proofs.lemmas.Bool.{false≢true, eqb-false, eq-eqb, ltb-true, ne_eqb}
-use Rattle.std.proofs.lemmas.List.{reverse-append}
+use Rattle.std.proofs.lemmas.Bool.{and_right, false≢true, eqb-false, eq-eqb, ltb-true, ne_eqb}
+use Rattle.std.proofs.lemmas.List.{reverse-append, nil_from_length}
+use Rattle.un_frame.proofs.LaneLemmas.{same_lane-refl, same_lane-is}
+use Rattle.un_facts.proofs.Numbers.{middle_zero}
 use Rattle.un_frame.specs.declared.params.Lane.{Lane}
 use Rattle.un_frame.specs.declared.params.Lane.TheVariants.{Outward, Inward}
 use Rattle.un_frame.specs.declared.kinds.Phase.{Phase}
@@ -21,7 +23,7 @@ use Rattle.un_journal.specs.Step.{made_entry, made_if, cut_each, marked_each, re
 use Rattle.un_journal.specs.Sound.{IsSound, Follows, IsNext, IsNextSpan}
 use Rattle.un_journal.specs.Fits.{Act, Fits, takes, refuses, waits_once, closes, begins_flight, cuts_queued, lands, fails, cuts_flight, comes_home, opens, gives, posts_one, marks, recalls_one, clears, settles, orders, orders_forced, after_took, Legal, begins, goes_on}
 use Rattle.un_journal.proofs.Given.{cover_below}
-use Rattle.un_journal.proofs.Lists.{past_more, those_rest, those_first, same_lane_true}
+use Rattle.un_journal.proofs.Lists.{past_more, those_rest, those_first}
 use Rattle.un_journal.proofs.Legal.{AllSound, MayFollow, MayFollowAll, add_line, of_lane, next_from, none_flies, queued_waiting, arrived_from, next_number_from}
 
 -- what holds of every legal history
@@ -55,15 +57,11 @@ whole_if : (b : Bool) (e : Entry) (g : History) → is_plain e ≡ true → (b �
 whole_if true e g p f w = plain_whole e g p (f refl) w
 whole_if false e g p f w = w
 
-and_false : (b f : Bool) → f ≡ false → (not b && f) ≡ false
-and_false true f e = refl
-and_false false f e = e
-
 plain_grounded : (e : Entry) (g : History) → is_plain e ≡ true → (j : ℕ) → flies g j ≡ false → flies (e ∷ g) j ≡ false
 plain_grounded (Flying l k, bytes) g p j w = absurd (false≢true p)
-plain_grounded (Landed l k, bytes) g p j w = and_false (k == j) (flies g j) w
-plain_grounded (Failed l k kind, bytes) g p j w = and_false (k == j) (flies g j) w
-plain_grounded (Cut l k c, bytes) g p j w = and_false (k == j) (flies g j) w
+plain_grounded (Landed l k, bytes) g p j w = and_right (not (k == j)) (flies g j) w
+plain_grounded (Failed l k kind, bytes) g p j w = and_right (not (k == j)) (flies g j) w
+plain_grounded (Cut l k c, bytes) g p j w = and_right (not (k == j)) (flies g j) w
 plain_grounded (e, bytes) g p j w = w
 
 grounded_if : (b : Bool) (e : Entry) (g : History) → is_plain e ≡ true → (j : ℕ) → flies g j ≡ false → flies (if b then (e ∷ g) else g) j ≡ false
@@ -158,16 +156,12 @@ took_ends script lane sender g sound whole s e =
     (λ c. let w : cover g ≡ taken g = whole c in omega arith)
     (λ v. ltb-true (cover g) (taken g + 1 - 1) v) s e
 
-pub same_lane_same : (lane : Lane) → same_lane lane lane ≡ true
-same_lane_same Outward = refl
-same_lane_same Inward = refl
-
 -- the lane's lines after a line of its own
 pub own_past : (h : History) (e : Entry) (lane : Lane) → concerns lane e ≡ true → past lane (h ++ e ∷ []) ≡ e ∷ past lane h
 own_past h e lane c = rw (past_more, c) refl
 
 took_past : (h : History) (lane : Lane) (sender : ℕ) → past lane (h ++ bare (Took lane sender) ∷ []) ≡ after_took lane sender (past lane h)
-took_past h lane sender = own_past h (bare (Took lane sender)) lane (same_lane_same lane)
+took_past h lane sender = own_past h (bare (Took lane sender)) lane (same_lane-refl lane)
 
 -- after a took line the lanes are sound, and nothing flies that didn't
 took_sound : (h : History) (lane : Lane) (sender : ℕ) → AllSound h → AllSound (h ++ bare (Took lane sender) ∷ [])
@@ -190,7 +184,7 @@ alone_whole false e g never w = w
 took_alone : (script : Script) (h : History) (lane : Lane) (sender : ℕ) → Good script h → (packs script.params.class lane ≡ false → ⊥) → Good script (h ++ bare (Took lane sender) ∷ [])
 took_alone script h lane sender good blocks = record {
   sound = took_sound h lane sender good.sound;
-  whole = λ l c. rw past_more (alone_whole (same_lane l lane) (bare (Took lane sender)) (past l h) (λ b. blocks (subst (λ i. packs script.params.class i ≡ false) (same_lane_true l lane b) c)) (good.whole l c));
+  whole = λ l c. rw past_more (alone_whole (same_lane l lane) (bare (Took lane sender)) (past l h) (λ b. blocks (subst (λ i. packs script.params.class i ≡ false) (same_lane-is l lane b) c)) (good.whole l c));
   grounded = took_grounded script h lane sender good;
 }
 
@@ -228,7 +222,7 @@ took_made script h lane sender s good e = record {
       (of_lane (h ++ bare (Took lane sender) ∷ []) (made_entry script lane (after_took lane sender (past lane h)) s) lane (λ l. refl)
       (subst (Follows (made_entry script lane (after_took lane sender (past lane h)) s)) (sym (took_past h lane sender)) (refl, span)));
   whole = λ l c. rw (past_more, past_more)
-      (took_made_whole (same_lane l lane) lane l sender (made (past lane h)) s _ (past l h) (λ b. subst (λ i. s.1 ≡ taken (past i h) + 1) (sym (same_lane_true l lane b)) (span_whole script lane sender (past lane h) s (subst (λ i. packs script.params.class i ≡ false) (same_lane_true l lane b) c) e)) (good.whole l c));
+      (took_made_whole (same_lane l lane) lane l sender (made (past lane h)) s _ (past l h) (λ b. subst (λ i. s.1 ≡ taken (past i h) + 1) (sym (same_lane-is l lane b)) (span_whole script lane sender (past lane h) s (subst (λ i. packs script.params.class i ≡ false) (same_lane-is l lane b) c) e)) (good.whole l c));
   grounded = λ a j. rw past_more (grounded_if (same_lane Outward lane) (made_entry script lane (after_took lane sender (past lane h)) s) (past Outward (h ++ bare (Took lane sender) ∷ [])) refl j
       (took_grounded script h lane sender good
       (asleep_before script.controls (made_entry script lane (after_took lane sender (past lane h)) s) (reverse (h ++ bare (Took lane sender) ∷ [])) refl
@@ -306,7 +300,7 @@ cut_follow c [] h none e = tt
 cut_follow c (k ∷ ks) h none e = (
   of_lane h (bare (Cut Outward k c)) Outward (λ l. refl) (inr (waiting_next (past Outward h) k ks none e)),
   cut_follow c ks (h ++ bare (Cut Outward k c) ∷ [])
-      (λ j. rw own (and_false (k == j) (flies (past Outward h) j) (none j)))
+      (λ j. rw own (and_right (not (k == j)) (flies (past Outward h) j) (none j)))
       (rw own (cut_rest (past Outward h) k c Outward ks e)),
 )
   where
@@ -433,17 +427,10 @@ did_phase : (script : Script) (h : History) (f : Bool) (due : Due) → slice_get
     → phase_of script (h ++ bare (Line.Control (controls_done (reverse h)) f) ∷ []) ≡ after_order due.control (phase_of script h)
 did_phase script h f due e = rw (phase_more, e) refl
 
-sum_zero : (a b c : ℕ) → a + b + c ≡ 0 → b ≡ 0
-sum_zero a b c e = omega arith
-
-empty_from : (xs : List ℕ) → length xs ≡ 0 → xs ≡ []
-empty_from [] e = refl
-empty_from (x ∷ xs) e = absurd (omega arith)
-
 did_grounded : (order : Order) (phase : Phase) (out inw : History) → IsSound out → (is_asleep phase ≡ true → (j : ℕ) → flies out j ≡ false) → hinders order phase out inw ≡ 0
     → is_asleep (after_order order phase) ≡ true → (j : ℕ) → flies out j ≡ false
 did_grounded Order.Suspend phase out inw sound none z a j =
-    none_flies out sound (empty_from (flying out) (sum_zero (length (queued phase Outward out)) (length (flying out)) (length (flying inw)) z)) j
+    none_flies out sound (nil_from_length (flying out) (middle_zero (length (queued phase Outward out)) (length (flying out)) (length (flying inw)) z)) j
 did_grounded Order.Resume phase out inw sound none z a j = absurd (false≢true a)
 did_grounded Order.Up phase out inw sound none z a j = absurd (false≢true a)
 did_grounded Order.Down phase out inw sound none z a j = absurd (false≢true a)

@@ -1,9 +1,10 @@
 -- Words behind spaces, and how a line is cut into them again.
-use Rattle.std.proofs.Common.{ℕ, zero, suc, ◌+◌, ◌/◌, ◌%◌, ◌<◌, ◌≤◌, ◌^◌, ◌≡◌, Bool, true, false, ◌&&◌, nat_lt, List, [], ◌∷◌, ◌++◌, length, decimal, slice_index, refl, sym, ap, ◌∙◌, arith, append_assoc}
+use Rattle.std.proofs.Common.{ℕ, zero, suc, ◌+◌, ◌/◌, ◌%◌, ◌<◌, ◌≤◌, ◌^◌, ◌≡◌, Bool, true, ◌&&◌, nat_lt, List, [], ◌∷◌, ◌++◌, length, decimal, slice_index, refl, sym, ap, ◌∙◌, arith, append_assoc}
 use Rattle.std.specs.List.{list_all}
-use Rattle.std.proofs.lemmas.Bool.{ltb-true, lt-ltb}
+use Rattle.std.proofs.lemmas.Bool.{ltb-true, lt-ltb, and_from}
 use Rattle.std.proofs.lemmas.List.Folds.{list_all-append}
 use Rattle.std.proofs.lemmas.Fmt.{decimal_by_steps}
+use Rattle.un_facts.proofs.Booleans.{and_first, and_second}
 use Rattle.hex.specs.Hex.{encode_lower, encode_with, lower_digits}
 use Rattle.un_frame.specs.Bytes.{AreBytes}
 use Rattle.un_journal.specs.Text.{spaced}
@@ -18,18 +19,6 @@ is_plain word = list_all is_glyph word
 abbrev pub are_plain : List (List ℕ) → Bool
 are_plain words = list_all is_plain words
 
-pub left : (a b : Bool) → (a && b) ≡ true → a ≡ true
-left true b h = refl
-left false b h = h
-
-pub right : (a b : Bool) → (a && b) ≡ true → b ≡ true
-right true b h = h
-right false b h = absurd (cc)
-
-pub both : (a b : Bool) → a ≡ true → b ≡ true → (a && b) ≡ true
-both true b h k = k
-both false b h k = absurd (cc)
-
 head_same : (c d : ℕ) (x y : List ℕ) → c ∷ x ≡ d ∷ y → c ≡ d
 head_same c d x y e = cc
 
@@ -43,11 +32,11 @@ no_glyph b c above low same = let over = ltb-true 32 b above in absurd (omega ar
 pub cut : (u v : List ℕ) (c d : ℕ) (x y : List ℕ) → is_plain u ≡ true → is_plain v ≡ true → c ≤ 32 → d ≤ 32
     → u ++ c ∷ x ≡ v ++ d ∷ y → (u ≡ v) × (c ∷ x ≡ d ∷ y)
 cut [] [] c d x y p q s t e = (refl, e)
-cut [] (b ∷ v) c d x y p q s t e = absurd (no_glyph b c (left (is_glyph b) (is_plain v) q) s (head_same c b x (v ++ d ∷ y) e))
-cut (a ∷ u) [] c d x y p q s t e = absurd (no_glyph a d (left (is_glyph a) (is_plain u) p) t (sym (head_same a d (u ++ c ∷ x) y e)))
+cut [] (b ∷ v) c d x y p q s t e = absurd (no_glyph b c (and_first (is_glyph b) (is_plain v) q) s (head_same c b x (v ++ d ∷ y) e))
+cut (a ∷ u) [] c d x y p q s t e = absurd (no_glyph a d (and_first (is_glyph a) (is_plain u) p) t (sym (head_same a d (u ++ c ∷ x) y e)))
 cut (a ∷ u) (b ∷ v) c d x y p q s t e =
     let same = head_same a b (u ++ c ∷ x) (v ++ d ∷ y) e in
-    let more = cut u v c d x y (right (is_glyph a) (is_plain u) p) (right (is_glyph b) (is_plain v) q) s t (rest_same a b (u ++ c ∷ x) (v ++ d ∷ y) e) in
+    let more = cut u v c d x y (and_second (is_glyph a) (is_plain u) p) (and_second (is_glyph b) (is_plain v) q) s t (rest_same a b (u ++ c ∷ x) (v ++ d ∷ y) e) in
     (ap (λ k. k ∷ u) same ∙ ap (λ w. b ∷ w) more.0, more.1)
 
 -- what follows a word: a space, or the line feed
@@ -78,9 +67,9 @@ cut_words [] (v ∷ vs) x y p q e = let no = head_same 10 32 x ((v ++ spaced vs)
 cut_words (u ∷ us) [] x y p q e = let no = head_same 32 10 ((u ++ spaced us) ++ 10 ∷ x) y e in absurd (omega (arith, no))
 cut_words (u ∷ us) (v ∷ vs) x y p q e =
     let inner = rest_same 32 32 ((u ++ spaced us) ++ 10 ∷ x) ((v ++ spaced vs) ++ 10 ∷ y) e in
-    let m = cut_tail u v us vs x y (left (is_plain u) (are_plain us) p) (left (is_plain v) (are_plain vs) q)
+    let m = cut_tail u v us vs x y (and_first (is_plain u) (are_plain us) p) (and_first (is_plain v) (are_plain vs) q)
     (sym (append_assoc u (spaced us) (10 ∷ x)) ∙ inner ∙ append_assoc v (spaced vs) (10 ∷ y)) in
-    let n = cut_words us vs x y (right (is_plain u) (are_plain us) p) (right (is_plain v) (are_plain vs) q) m.1 in
+    let n = cut_words us vs x y (and_second (is_plain u) (are_plain us) p) (and_second (is_plain v) (are_plain vs) q) m.1 in
     (ap (λ w. w ∷ us) m.0 ∙ ap (λ ws. v ∷ ws) n.0, n.1)
 
 pub spaced_append : (us vs : List (List ℕ)) → spaced (us ++ vs) ≡ spaced us ++ spaced vs
@@ -90,22 +79,22 @@ spaced_append (u ∷ us) vs = ap (λ t. (32 ∷ u) ++ t) (spaced_append us vs) �
 -- numbers and bytes are plain words
 pub decimal_plain : (n : ℕ) → n < 2 ^ 64 → is_plain (decimal n) ≡ true
 decimal_plain n h = decimal_by_steps (λ n ds. is_plain ds ≡ true)
-    (λ n small. both (is_glyph (48 + n)) true (lt-ltb 32 (48 + n) (omega arith)) refl)
-    (λ n ds more plain. list_all-append is_glyph ds ((48 + n % 10) ∷ []) ∙ both (is_plain ds) (is_plain ((48 + n % 10) ∷ [])) plain
-    (both (is_glyph (48 + n % 10)) true (lt-ltb 32 (48 + n % 10) (omega arith)) refl)) n h
+    (λ n small. and_from (is_glyph (48 + n)) true (lt-ltb 32 (48 + n) (omega arith)) refl)
+    (λ n ds more plain. list_all-append is_glyph ds ((48 + n % 10) ∷ []) ∙ and_from (is_plain ds) (is_plain ((48 + n % 10) ∷ [])) plain
+    (and_from (is_glyph (48 + n % 10)) true (lt-ltb 32 (48 + n % 10) (omega arith)) refl)) n h
 
 digit_plain : (n : ℕ) → n < 16 → is_glyph (slice_index lower_digits n) ≡ true
 digit_plain n h = among lower_digits n h refl
   where
     among : (ds : List ℕ) (n : ℕ) → n < length ds → is_plain ds ≡ true → is_glyph (slice_index ds n) ≡ true
     among [] n h p = absurd (omega arith)
-    among (d ∷ ds) zero h p = left (is_glyph d) (is_plain ds) p
-    among (d ∷ ds) (suc n) h p = among ds n (omega arith) (right (is_glyph d) (is_plain ds) p)
+    among (d ∷ ds) zero h p = and_first (is_glyph d) (is_plain ds) p
+    among (d ∷ ds) (suc n) h p = among ds n (omega arith) (and_second (is_glyph d) (is_plain ds) p)
 
 pub hex_plain : (bytes : List ℕ) → AreBytes bytes → is_plain (encode_lower bytes) ≡ true
 unfolding encode_with
 hex_plain [] h = refl
 hex_plain (b ∷ bytes) h =
     let fits = h 0 in
-    both (is_glyph (slice_index lower_digits (b / 16))) (is_glyph (slice_index lower_digits (b % 16)) && is_plain (encode_lower bytes)) (digit_plain (b / 16) (omega (arith, fits)))
-    (both (is_glyph (slice_index lower_digits (b % 16))) (is_plain (encode_lower bytes)) (digit_plain (b % 16) (omega arith)) (hex_plain bytes (λ i. h (suc i))))
+    and_from (is_glyph (slice_index lower_digits (b / 16))) (is_glyph (slice_index lower_digits (b % 16)) && is_plain (encode_lower bytes)) (digit_plain (b / 16) (omega (arith, fits)))
+    (and_from (is_glyph (slice_index lower_digits (b % 16))) (is_plain (encode_lower bytes)) (digit_plain (b % 16) (omega arith)) (hex_plain bytes (λ i. h (suc i))))

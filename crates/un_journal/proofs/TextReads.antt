@@ -4,6 +4,8 @@ use Rattle.std.specs.List.{flat_map}
 use Rattle.std.specs.Str.{bytes_eq}
 use Rattle.std.specs.Str.Parse.{digits_value}
 use Rattle.std.proofs.lemmas.Fmt.{decimal_is_IsNumeral}
+use Rattle.std.proofs.lemmas.Bool.{and_from}
+use Rattle.un_frame.specs.Spelling.{lane_word}
 use Rattle.hex.specs.Hex.{encode_lower, decode_of}
 use Rattle.hex.specs.declared.FromHexError.{FromHexError}
 use Rattle.hex.proofs.HexLemmas.{decode_of-encode_lower}
@@ -18,9 +20,9 @@ use Rattle.un_journal.specs.declared.lines.Line.{Line}
 use Rattle.un_journal.specs.declared.lines.Line.TheVariants.{Took, Refused, Made, Waited, Posted, Flying, Landed, Failed, Marked, Cut, Dropped, TxHome, Opened, Gave, Recalled, Cleared, Control, Settled}
 use Rattle.un_journal.specs.History.{Entry, History}
 use Rattle.un_journal.specs.Log.{IsEntry, AreEntries, FitsTypes}
-use Rattle.un_journal.specs.Text.{lane_word, verdict_word, kind_word, flag_word, name_of, words_of, bytes_words, spaced, entry_text, trace}
+use Rattle.un_journal.specs.Text.{verdict_word, kind_word, flag_word, name_of, words_of, bytes_words, spaced, entry_text, trace}
 use Rattle.un_journal.specs.TextLaw.{EntriesAreRead, TracesAreRead, HistoriesAreRead}
-use Rattle.un_journal.proofs.TextCuts.{is_plain, are_plain, both, tail_of, cut_tail, cut_words, spaced_append, decimal_plain, hex_plain}
+use Rattle.un_journal.proofs.TextCuts.{is_plain, are_plain, tail_of, cut_tail, cut_words, spaced_append, decimal_plain, hex_plain}
 
 -- FROM WORDS
 
@@ -185,7 +187,7 @@ name_plain (Settled t1 r1 t2 r2) = refl
 
 -- a plain word before plain words
 onto : (w : List ℕ) (ws : List (List ℕ)) → is_plain w ≡ true → are_plain ws ≡ true → are_plain (w ∷ ws) ≡ true
-onto w ws h k = both (is_plain w) (are_plain ws) h k
+onto w ws h k = and_from (is_plain w) (are_plain ws) h k
 
 words_plain : (line : Line) (ws : List (List ℕ)) → FitsTypes line → are_plain ws ≡ true → are_plain (words_of line ++ ws) ≡ true
 words_plain (Took l s) ws fits p = onto (lane_word l) (decimal s ∷ ws) (lane_plain l) (onto (decimal s) ws (short_plain s fits) p)

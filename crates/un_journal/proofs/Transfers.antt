@@ -1,7 +1,8 @@
 -- What the wire gives of transfers that are made of accepted frames.
-use Rattle.std.proofs.Common.{◌≡◌, ℕ, ◌+◌, ◌≤◌, true, List, [], ◌∷◌, ◌++◌, map, length, refl, sym, ap, subst, slice_get, unwrap_or, append-nil, append_assoc, IsTrue}
+use Rattle.std.proofs.Common.{◌≡◌, ℕ, ◌+◌, ◌≤◌, true, List, [], ◌∷◌, ◌++◌, map, length, refl, sym, ap, subst, slice_get, unwrap_or}
 use Rattle.std.proofs.lemmas.Bool.{false≢true}
 use Rattle.std.specs.List.{sum_by}
+use Rattle.un_frame.proofs.WireLemmas.{fit_last}
 use Rattle.un_frame.specs.declared.params.Params.{Params}
 use Rattle.un_frame.specs.declared.params.Class.{Class}
 use Rattle.un_frame.specs.declared.params.Class.TheVariants.{Ecm, Eem, Ncm16, Ncm32}
@@ -29,11 +30,6 @@ pub record WireHolds (params : Params) : Type 0 where
   -- it is no longer than its frames with 192 bytes for each
   pub is_short : (serial : ℕ) (frames : List Frame) → 1 ≤ length frames → AreFrames params frames
       → length (form params serial frames) ≤ sum_by (λ frame. length frame + 192) frames
-
-fit_last : (class : Class) (params : Params) (before sizes : List ℕ) (size : ℕ) → FitInTurn class params before sizes → IsTrue (fits_as class params (before ++ sizes) size) → FitInTurn class params before (sizes ++ size ∷ [])
-fit_last class params before [] size f e = (subst (λ i. IsTrue (fits_as class params i size)) (append-nil before) e, tt)
-fit_last class params before (y ∷ sizes) size f e =
-    (f.0, fit_last class params (before ++ y ∷ []) sizes size f.1 (subst (λ i. IsTrue (fits_as class params i size)) (sym (append_assoc before (y ∷ []) sizes)) e))
 
 pub lengths_append : (xs ys : List Frame) → map length (xs ++ ys) ≡ map length xs ++ map length ys
 lengths_append [] ys = refl

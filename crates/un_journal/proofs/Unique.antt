@@ -1,6 +1,7 @@
 -- After a legal history each action has at most one step that fits: the lines of its outcome.
 use Rattle.std.proofs.Common.{◌≡◌, ◌≢◌, ℕ, zero, suc, ◌<◌, ◌≤◌, Bool, true, false, ◌&&◌, ◌==◌, List, [], ◌∷◌, ◌++◌, Option, Some, ◌⊎◌, inl, inr, refl, sym, ap, ◌∙◌, subst, arith, if◌then◌else◌, nat_lt}
 use Rattle.std.proofs.lemmas.Bool.{false≢true, ne_eqb, cases_lt, and_parts, ltb-true, lt-ltb, cases_Bool}
+use Rattle.un_journal.proofs.Lists.{writes_same, those_empty}
 use Rattle.un_frame.specs.declared.params.Lane.{Lane}
 use Rattle.un_frame.specs.declared.params.Lane.TheVariants.{Outward, Inward}
 use Rattle.un_frame.specs.declared.kinds.Phase.{Phase}
@@ -11,15 +12,15 @@ use Rattle.un_frame.specs.declared.kinds.Verdict.TheVariants.{Take, Short, Long,
 use Rattle.un_frame.specs.Lanes.{packs}
 use Rattle.un_frame.specs.Verdict.{verdict_of}
 use Rattle.un_journal.specs.Script.{Script, Frame}
-use Rattle.un_journal.specs.History.{History, past, built, flies, flying, those, first, took_last, made}
+use Rattle.un_journal.specs.History.{History, past, built, flies, flying, those, first, took_last, made, ends}
 use Rattle.un_journal.specs.Lookup.{phase_of, works, is_awake, is_asleep, pending, block_open, tx_home, offer_needs_home, span_after_took}
-use Rattle.un_journal.specs.LaneSteps.{Outcome, Writes, Answers, lines_in, bare}
+use Rattle.un_journal.specs.LaneSteps.{Outcome, Writes, Answers, bare}
 use Rattle.un_journal.specs.Step.{judge, offer_head, made_if}
 use Rattle.un_journal.specs.Sound.{IsSound}
 use Rattle.un_journal.specs.Fits.{Act, Fits, takes, refuses, waits_once, closes, begins_flight, cuts_queued, lands, fails, cuts_flight, comes_home, opens, gives, posts_one, marks, recalls_one, clears, settles, orders, orders_forced, Legal, act_outcome, after_took}
 use Rattle.un_journal.specs.declared.lines.Line.{Line}
 use Rattle.un_journal.specs.declared.actions.Answer.{Answer}
-use Rattle.un_journal.proofs.Order.{ends, in_order, flight_is}
+use Rattle.un_journal.proofs.Order.{in_order, flight_is}
 use Rattle.un_journal.proofs.Legal.{fresh, quiet_grounded}
 use Rattle.un_journal.proofs.Steps.{Good, legal_good}
 
@@ -48,16 +49,12 @@ first_some_then : (xs ys : List ℕ) (k : ℕ) → first xs ≡ Some k → first
 first_some_then [] ys k e = absurd (cc)
 first_some_then (x ∷ xs) ys k e = e
 
-pub those_empty_below : (p : ℕ → Bool) (n : ℕ) → ((j : ℕ) → j < n → p j ≡ false) → those p n ≡ []
-those_empty_below p zero h = refl
-those_empty_below p (suc n) h = rw (those_empty_below p n (λ j i. h j (omega arith)), h n (omega arith)) refl
-
 pub those_first_is : (p : ℕ → Bool) (n k : ℕ) → p k ≡ true → k < n → ((j : ℕ) → j < k → p j ≡ false) → first (those p n) ≡ Some k
 those_first_is p zero k pk kn least = absurd (omega arith)
 those_first_is p (suc n) k pk kn least = go (cases_lt k n) (those_first_is p n k pk)
   where
     use_last : n ≡ k → first (those p (suc n)) ≡ Some k
-    use_last nk = rw (those_empty_below p n (λ j h. least j (omega arith))) (last n nk)
+    use_last nk = rw (those_empty p n (λ j h. least j (omega arith))) (last n nk)
       where
         last : (i : ℕ) → i ≡ k → first (if p i then i ∷ [] else []) ≡ Some k
         last i ik = rw (subst (λ q. p q ≡ true) (sym ik) pk) (ap Some ik)
@@ -135,9 +132,6 @@ fits_outcome script h lines act good (clears lane a e) = rw (awake_not (phase_of
 fits_outcome script h lines act good (settles s e) = rw (s, e) refl
 fits_outcome script h lines act good (orders force due e p d z) = rw (e, p, d, z) refl
 fits_outcome script h lines act good (orders_forced due e p d q z) = rw (e, q, p, d, z) refl
-
-writes_same : (xs ys : History) → Writes xs ≡ Writes ys → xs ≡ ys
-writes_same xs ys e = ap lines_in e
 
 -- at most one step of an action fits
 pub one_step : (script : Script) (h : History) (act : Act) (xs ys : History) → Legal script h → Fits script h act xs → Fits script h act ys → xs ≡ ys

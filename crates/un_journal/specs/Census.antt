@@ -1,5 +1,6 @@
 -- How often the number of a datagram stands in each place of its lane.
-use Rattle.std.specs.Prelude.{◌≡◌, ℕ, ◌+◌, Bool, true, false, ◌==◌, List, [], ◌∷◌, ◌++◌, Option, Some, None, if◌then◌else◌}
+use Rattle.std.specs.Prelude.{◌≡◌, ℕ, ◌+◌, Bool, ◌==◌, List, [], ◌∷◌, ◌++◌, Option, Some, None, if◌then◌else◌}
+use Rattle.un_facts.specs.Numbers.{one_if}
 use Rattle.un_frame.specs.declared.params.Lane.{Lane}
 use Rattle.un_frame.specs.declared.params.Params.{Params}
 use Rattle.un_frame.specs.declared.kinds.Phase.{Phase}
@@ -63,10 +64,6 @@ census script h lane n = lane_census script.params (phase_of script h) lane (pas
 -- all of its counts together
 abbrev pub total : Census → ℕ
 total c = c.builder + c.remainder + c.deferred + c.queued + c.flying + c.arrived + c.current + c.given + c.lost
-
-abbrev pub one_if : Bool → ℕ
-one_if true = 1
-one_if false = 0
 
 -- the counts name the place of n: two of them the builder, four the list
 pub record NamesPlace (c : Census) (g : History) (n : ℕ) : Type 0 where

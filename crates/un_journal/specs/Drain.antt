@@ -1,8 +1,8 @@
 -- Runs of actions, the serial round and the drain.
-use Rattle.std.specs.Prelude.{ℕ, zero, suc, ◌+◌, ◌*◌, Bool, true, false, List, [], ◌∷◌, ◌++◌, length, sum_by, nat_le}
+use Rattle.std.specs.Prelude.{ℕ, zero, suc, ◌+◌, ◌*◌, Bool, true, false, List, [], ◌∷◌, ◌++◌, length, nat_le}
 use Rattle.un_frame.specs.declared.params.Lane.TheVariants.{Outward, Inward}
 use Rattle.un_journal.specs.declared.actions.Action.{Action}
-use Rattle.un_journal.specs.Script.{Script, feeds_of}
+use Rattle.un_journal.specs.Script.{Script, frame_count}
 use Rattle.un_journal.specs.History.{History}
 use Rattle.un_journal.specs.Step.{step_of}
 
@@ -21,10 +21,6 @@ round =
     ∷ Action.TxDone Outward ∷ Action.TxDone Inward ∷ Action.RxDone Outward ∷ Action.RxDone Inward
     ∷ Action.Deliver Outward ∷ Action.Deliver Inward ∷ Action.Unlink Outward ∷ Action.Unlink Inward
     ∷ Action.ClearHalt Outward ∷ Action.ClearHalt Inward ∷ Action.Settle ∷ []
-
--- the frames of all feeds
-abbrev pub frame_count : Script → ℕ
-frame_count script = sum_by length (feeds_of script Outward) + sum_by length (feeds_of script Inward)
 
 -- The bound on the lines of a history: 13 for each frame; of each receive request one at the start and two for each control, when
 -- it is recalled and posted again; 4 for each control.

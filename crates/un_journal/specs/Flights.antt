@@ -1,12 +1,12 @@
 -- The flights that are out of a machine, as lists in which the order says nothing: what counts is how often a flight stands in one.
 use Rattle.std.specs.Prelude.{◌≡◌, ℕ, ◌+◌, Bool, ◌&&◌, ◌==◌, List, [], ◌∷◌}
 use Rattle.std.specs.Str.{bytes_eq}
+use Rattle.un_facts.specs.Numbers.{one_if}
 use Rattle.un_frame.specs.Lanes.{same_lane}
 use Rattle.un_journal.specs.declared.machine.Flight.{Flight}
 use Rattle.un_journal.specs.declared.machine.Transfer.{Transfer}
 use Rattle.un_journal.specs.declared.got.Got.{Got}
 use Rattle.un_journal.specs.declared.got.Got.TheVariants.{Part, Cut, Not}
-use Rattle.un_journal.specs.Census.{one_if}
 
 -- the sum of f over a list
 abbrev pub total_of : {A : Type 0} → (A → ℕ) → List A → ℕ

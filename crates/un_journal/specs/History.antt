@@ -1,7 +1,9 @@
 -- A history is a list of entries, the oldest first. What it says of a lane is looked up in the lane's entries, the newest first:
 -- each look-up below says what one more line changes. A flight is looked up so that a
 -- transfer may fly again: it flies where a flying line has no later line that ends the flight.
-use Rattle.std.specs.Prelude.{ℕ, zero, suc, ◌+◌, ◌-◌, Bool, true, false, not, ◌&&◌, ◌||◌, ◌==◌, nat_lt, nat_le, List, [], ◌∷◌, ◌++◌, reverse, Option, Some, None, filter, is_some, if◌then◌else◌}
+use Rattle.std.specs.Prelude.{ℕ, zero, suc, ◌+◌, ◌-◌, Bool, true, false, not, ◌&&◌, ◌||◌, ◌==◌, List, [], ◌∷◌, ◌++◌, reverse, Option, Some, None, filter, is_some, if◌then◌else◌}
+use Rattle.un_facts.specs.Lists.{is_empty}
+use Rattle.un_facts.specs.Numbers.{within}
 use Rattle.un_frame.specs.declared.params.Lane.{Lane}
 use Rattle.un_frame.specs.declared.kinds.FaultKind.TheVariants.{Halt}
 use Rattle.un_frame.specs.Lanes.{same_lane}
@@ -59,10 +61,6 @@ row_from a (suc n) = a ∷ row_from (a + 1) n
 
 abbrev pub numbers : ℕ × ℕ → List ℕ
 numbers span = row_from span.0 (span.1 - span.0)
-
--- whether n is in the span from a to b
-abbrev pub within : ℕ → ℕ → ℕ → Bool
-within a b n = nat_le a n && nat_lt n b
 
 -- one more where the test passes; the value where it passes, else what was there
 abbrev pub more_if : Bool → ℕ → ℕ
@@ -202,10 +200,6 @@ span_numbers (Some s) = numbers s
 abbrev pub left_of : History → ℕ → List ℕ
 left_of g k = filter (λ n. not (gave g n)) (span_numbers (span g k))
 
-abbrev pub is_empty : {X : Type 0} → List X → Bool
-is_empty [] = true
-is_empty (x ∷ xs) = false
-
 -- the current transfer: opened, with a number that isn't given
 abbrev pub current : History → Option ℕ
 current g = first (those (λ k. opened g k && not (is_empty (left_of g k))) (made g))
@@ -240,6 +234,14 @@ abbrev pub flight_cuts : History → ℕ
 flight_cuts [] = 0
 flight_cuts ((Cut l k c, bytes) ∷ g) = more_if (flies g k) (flight_cuts g)
 flight_cuts (e ∷ g) = flight_cuts g
+
+-- the flights that ended: landed, failed or cut
+abbrev pub ends : History → ℕ
+ends [] = 0
+ends ((Landed l k, bytes) ∷ g) = ends g + 1
+ends ((Failed l k kind, bytes) ∷ g) = ends g + 1
+ends ((Cut l k c, bytes) ∷ g) = ends g + 1
+ends (e ∷ g) = ends g
 
 abbrev pub returned : History → ℕ
 returned [] = 0

@@ -1,6 +1,7 @@
 -- The laws over every history that a link can have. Each is the contract of a public call in src/laws.rt. A moment of a history is
 -- a legal history itself, what an earlier step left, so each law holds at every moment.
 use Rattle.std.specs.Prelude.{◌≡◌, ℕ, ◌+◌, ◌<◌, ◌≤◌, true, false, not, ◌&&◌, List, [], ◌∷◌, ◌++◌, reverse, length}
+use Rattle.un_frame.specs.Lanes.{tx_size, rx_size}
 use Rattle.un_frame.specs.declared.params.Lane.{Lane}
 use Rattle.un_frame.specs.Params.{AreInRange, Agree}
 use Rattle.un_journal.specs.declared.lines.Line.{Line}
@@ -8,9 +9,9 @@ use Rattle.un_journal.specs.declared.lines.Line.TheVariants.{Settled}
 use Rattle.un_journal.specs.declared.actions.Action.{Action}
 use Rattle.un_journal.specs.declared.actions.Answer.{Answer}
 use Rattle.un_journal.specs.Log.{HasReason, CarriesItsBytes}
-use Rattle.un_journal.specs.Script.{Script, frames_of, tx_size, rx_size}
+use Rattle.un_journal.specs.Script.{Script, frames_of}
 use Rattle.un_journal.specs.History.{Entry, History, past, taken, given, made, posts, recalls, flights, flight_cuts, posted, flying, delivered, returned, flies, flown, waits, ended, was_cut, row_from}
-use Rattle.un_journal.specs.Lookup.{datagrams, controls_done, tx_home, rx_home}
+use Rattle.un_journal.specs.Lookup.{datagrams, controls_done, tx_home, rx_home, claim, rx_back, landings, cuts_of}
 use Rattle.un_journal.specs.LaneSteps.{Writes, lines_in}
 use Rattle.un_journal.specs.Step.{all_home, away, quiet, step_of, answer_of}
 use Rattle.un_journal.specs.Fits.{Act, Fits, Legal, IsDone, act_outcome}
@@ -18,7 +19,6 @@ use Rattle.un_journal.specs.Drain.{run, drain, drain_in, line_bound}
 use Rattle.un_journal.specs.Places.{trues, places, IsRising, IsAllBelow}
 use Rattle.un_journal.specs.Census.{census, total, NamesPlace, nowhere}
 use Rattle.un_journal.specs.Licence.{Licensed, FindsHome}
-use Rattle.un_journal.specs.Sums.{claim, rx_back, landings, cuts_of}
 use Rattle.un_journal.specs.Bytes.{AreDatagrams, bytes_in, byte_bound}
 use Rattle.un_journal.specs.Done.{IsFinished, NoneFlies}
 use Rattle.un_journal.specs.Loss.{LosesNothing, accepted, good_frames}

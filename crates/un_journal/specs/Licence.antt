@@ -1,6 +1,7 @@
 -- What a line needs of the script and of the lines before it, the newest first: why a transfer failed or was cut, why datagrams were
 -- dropped, and that every request is home where a stop settles.
 use Rattle.std.specs.Prelude.{◌≡◌, ◌<◌, ℕ, true, false, ◌||◌, Some, None, slice_get, filter, reverse}
+use Rattle.un_frame.specs.Lanes.{tx_size, rx_size}
 use Rattle.un_frame.specs.declared.params.Lane.{Lane}
 use Rattle.un_frame.specs.declared.params.Lane.TheVariants.{Outward, Inward}
 use Rattle.un_frame.specs.declared.kinds.FaultKind.{FaultKind}
@@ -8,7 +9,7 @@ use Rattle.un_journal.specs.declared.lines.Line.{Line}
 use Rattle.un_journal.specs.declared.lines.Line.TheVariants.{Failed, Marked, Cut, Dropped, Settled}
 use Rattle.un_journal.specs.declared.controls.Control.{Control as Order}
 use Rattle.un_journal.specs.declared.controls.Due.{Due}
-use Rattle.un_journal.specs.Script.{Script, planned, tx_size, rx_size}
+use Rattle.un_journal.specs.Script.{Script, planned}
 use Rattle.un_journal.specs.History.{Entry, History, concerns, mark}
 use Rattle.un_journal.specs.Lookup.{controls_done, phase_after, is_stopping, is_leaving}
 use Rattle.un_journal.specs.Step.{all_home}

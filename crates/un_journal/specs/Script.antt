@@ -1,5 +1,5 @@
 -- A script as plain data: the parameters of a link, what its senders offer, and what is done to it.
-use Rattle.std.specs.Prelude.{ℕ, ◌&&◌, ◌==◌, List, [], ◌∷◌, Option, Some, None, unwrap_or, slice_get, if◌then◌else◌}
+use Rattle.std.specs.Prelude.{ℕ, ◌+◌, length, ◌&&◌, ◌==◌, List, [], ◌∷◌, Option, Some, None, unwrap_or, slice_get, if◌then◌else◌}
 use Rattle.un_frame.specs.declared.params.Lane.{Lane}
 use Rattle.un_frame.specs.declared.params.Lane.TheVariants.{Outward, Inward}
 use Rattle.un_frame.specs.declared.kinds.FaultKind.{FaultKind}
@@ -38,6 +38,13 @@ feeds_of script Inward = feed_list script.inward
 abbrev pub frames_of : Script → Lane → ℕ → List Frame
 frames_of script lane sender = unwrap_or (slice_get (feeds_of script lane) sender) []
 
+-- how many frames there are, of a lane and of both
+abbrev pub frames_in_all : Feeds → ℕ
+frames_in_all feeds = length feeds.first + length feeds.second + length feeds.third + length feeds.fourth
+
+abbrev pub frame_count : Script → ℕ
+frame_count script = frames_in_all script.outward + frames_in_all script.inward
+
 abbrev pub planned_in : List Planned → Lane → ℕ → Option FaultKind
 planned_in [] lane serial = None
 planned_in (p ∷ ps) lane serial =
@@ -46,12 +53,3 @@ planned_in (p ∷ ps) lane serial =
 -- what the plan has for a transfer: the first fault that names its lane and serial
 abbrev pub planned : Script → Lane → ℕ → Option FaultKind
 planned script lane serial = planned_in script.faults lane serial
-
--- the sizes of a lane's pools
-abbrev pub tx_size : Params → Lane → ℕ
-tx_size params Outward = params.tx_out
-tx_size params Inward = params.tx_in
-
-abbrev pub rx_size : Params → Lane → ℕ
-rx_size params Outward = params.rx_out
-rx_size params Inward = params.rx_in

@@ -2,6 +2,8 @@
 -- blocks are cut follows the Linux drivers cdc_ncm and f_ncm.
 use Rattle.std.specs.Prelude.{ℕ, ◌+◌, ◌-◌, Bool, true, false, not, ◌&&◌, ◌||◌, ◌==◌, nat_lt, nat_le, List, [], ◌∷◌, ◌++◌, map, reverse, length, replicate, Option, Some, None, slice_get, if◌then◌else◌}
 use Rattle.std.specs.List.{list_all}
+use Rattle.un_frame.specs.Lanes.{tx_size, rx_size}
+use Rattle.un_facts.specs.Lists.{is_empty}
 use Rattle.un_frame.specs.declared.params.Lane.{Lane}
 use Rattle.un_frame.specs.declared.params.Lane.TheVariants.{Outward, Inward}
 use Rattle.un_frame.specs.declared.kinds.Phase.{Phase}
@@ -12,9 +14,9 @@ use Rattle.un_journal.specs.declared.actions.Answer.{Answer}
 use Rattle.un_journal.specs.declared.actions.Action.{Action}
 use Rattle.un_journal.specs.declared.controls.Control.{Control as Order}
 use Rattle.un_journal.specs.declared.controls.Due.{Due}
-use Rattle.un_journal.specs.Script.{Script, Frame, planned, tx_size, rx_size}
+use Rattle.un_journal.specs.Script.{Script, Frame, planned}
 use Rattle.un_journal.specs.LaneSteps.{Outcome, Writes, Answers, lines_in, answer_in, bare, made_line, made_lines, accept, tick_built, take_queued, land_marked, tx_done, rx_done, deliver_next, post, unlink_first, clear_set}
-use Rattle.un_journal.specs.History.{Entry, History, past, taken, cover, built, posted, flying, mark, is_empty}
+use Rattle.un_journal.specs.History.{Entry, History, past, taken, cover, built, posted, flying, mark}
 use Rattle.un_journal.specs.Lookup.{phase_of, works, is_asleep, is_stopping, is_leaving, controls_done, feed_head, feeds_empty, built_frames, tx_home, rx_home, deferred, queued, unmarked}
 
 -- OFFER AND TICK
@@ -143,6 +145,10 @@ lane_works lane = offers lane ++ other_works lane
 abbrev pub is_still : Outcome → Bool
 is_still (Writes lines) = false
 is_still (Answers answer) = true
+
+-- no offer of the lane's senders would take or refuse a frame
+abbrev pub offers_still : Script → History → Lane → Bool
+offers_still script h lane = list_all (λ w. is_still (work script h w)) (offers lane)
 
 -- nothing flies, and no step but a control's fits
 abbrev pub quiet : Script → History → Bool

@@ -1,9 +1,8 @@
 -- The text of a history: the line "trace", a line for each entry, and the line "end".
 use Rattle.std.specs.Prelude.{ℕ, Bool, true, false, List, [], ◌∷◌, ◌++◌, codes, decimal}
 use Rattle.std.specs.List.{flat_map}
+use Rattle.un_frame.specs.Spelling.{lane_word}
 use Rattle.hex.specs.Hex.{encode_lower}
-use Rattle.un_frame.specs.declared.params.Lane.{Lane}
-use Rattle.un_frame.specs.declared.params.Lane.TheVariants.{Outward, Inward}
 use Rattle.un_frame.specs.declared.kinds.FaultKind.{FaultKind}
 use Rattle.un_frame.specs.declared.kinds.FaultKind.TheVariants.{Proto, Halt}
 use Rattle.un_frame.specs.declared.kinds.Verdict.{Verdict}
@@ -11,10 +10,6 @@ use Rattle.un_frame.specs.declared.kinds.Verdict.TheVariants.{Take, Short, Long,
 use Rattle.un_journal.specs.declared.lines.Line.{Line}
 use Rattle.un_journal.specs.declared.lines.Line.TheVariants.{Took, Refused, Made, Waited, Posted, Flying, Landed, Failed, Marked, Cut, Dropped, TxHome, Opened, Gave, Recalled, Cleared, Control, Settled}
 use Rattle.un_journal.specs.History.{Entry, History}
-
-abbrev pub lane_word : Lane → List ℕ
-lane_word Outward = codes "out"
-lane_word Inward = codes "in"
 
 abbrev pub verdict_word : Verdict → List ℕ
 verdict_word Take = codes "take"

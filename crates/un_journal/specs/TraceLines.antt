@@ -2,28 +2,26 @@
 -- the texts of entries is proved (proofs/ReadLines).
 use Rattle.std.specs.Prelude.{◌≡◌, ℕ, ◌==◌, List, [], ◌∷◌, ◌++◌, length, codes, Option, Some, None, Result, Ok, Err, if◌then◌else◌}
 use Rattle.std.specs.Str.{bytes_eq}
+use Rattle.un_frame.specs.Spelling.{lane_named}
 use Rattle.un_frame.specs.declared.params.Lane.{Lane}
 use Rattle.un_journal.specs.declared.lines.Line.{Line}
 use Rattle.un_journal.specs.declared.lines.Line.TheVariants.{Took, Refused, Made, Waited, Posted, Flying, Landed, Failed, Marked, Cut, Dropped, TxHome, Opened, Gave, Recalled, Cleared, Control, Settled}
 use Rattle.un_journal.specs.declared.trace_reader.Unread.{Unread}
 use Rattle.un_journal.specs.declared.trace_reader.Unread.TheVariants.{Outside, NoMemory}
 use Rattle.un_journal.specs.History.{Entry, History}
-use Rattle.un_journal.specs.TraceWords.{words_in, lane_in, why_in, kind_in, flag_in, short_in, long_in, bytes_in}
+use Rattle.un_journal.specs.TraceWords.{words_in, why_in, flag_in, short_in, long_in, bytes_in, kind_named}
 
 infixl 10 ◌>>=◌
 abbrev pub ◌>>=◌ : {A B : Type 0} → Option A → (A → Option B) → Option B
 (Some x) >>= f = f x
 None >>= f = None
 
--- a line, and the digits of its bytes
-abbrev pub Written : Type 0
-Written = Line × List ℕ
-
-abbrev pub without_bytes : Option Line → Option Written
+-- A line that is read, with the digits of its bytes in their place.
+abbrev pub without_bytes : Option Line → Option Entry
 without_bytes (Some line) = Some (line, [])
 without_bytes None = None
 
-abbrev pub with_bytes : List ℕ → Option Line → Option Written
+abbrev pub with_bytes : List ℕ → Option Line → Option Entry
 with_bytes digits (Some line) = if length digits == 0 then None else Some (line, digits)
 with_bytes digits None = None
 
@@ -38,7 +36,7 @@ one_named name l =
 
 abbrev pub one_word : List ℕ → List ℕ → Option Line
 one_word name a = do
-  l ← lane_in a
+  l ← lane_named a
   one_named name l
 
 -- NAME LANE NUMBER
@@ -52,13 +50,13 @@ two_named name l k =
 
 abbrev pub numbered_line : List ℕ → List ℕ → List ℕ → Option Line
 numbered_line name a b = do
-  l ← lane_in a
+  l ← lane_named a
   k ← long_in b
   two_named name l k
 
 abbrev pub took_line : List ℕ → List ℕ → Option Line
 took_line a b = do
-  l ← lane_in a
+  l ← lane_named a
   s ← short_in b
   Some (Took l s)
 
@@ -77,35 +75,35 @@ two_words name a b =
 -- NAME LANE NUMBER and one word more
 abbrev pub refused_line : List ℕ → List ℕ → List ℕ → Option Line
 refused_line a b c = do
-  l ← lane_in a
+  l ← lane_named a
   s ← short_in b
   why ← why_in c
   Some (Refused l s why)
 
 abbrev pub failed_line : List ℕ → List ℕ → List ℕ → Option Line
 failed_line a b c = do
-  l ← lane_in a
+  l ← lane_named a
   k ← long_in b
-  kind ← kind_in c
+  kind ← kind_named c
   Some (Failed l k kind)
 
 abbrev pub marked_line : List ℕ → List ℕ → List ℕ → Option Line
 marked_line a b c = do
-  l ← lane_in a
+  l ← lane_named a
   k ← long_in b
   cause ← short_in c
   Some (Marked l k cause)
 
 abbrev pub cut_line : List ℕ → List ℕ → List ℕ → Option Line
 cut_line a b c = do
-  l ← lane_in a
+  l ← lane_named a
   k ← long_in b
   cause ← short_in c
   Some (Cut l k cause)
 
 abbrev pub gave_line : List ℕ → List ℕ → Option Line
 gave_line a b = do
-  l ← lane_in a
+  l ← lane_named a
   n ← long_in b
   Some (Gave l n)
 
@@ -120,7 +118,7 @@ three_words name a b c =
 -- four words
 abbrev pub dropped_line : List ℕ → List ℕ → List ℕ → List ℕ → Option Line
 dropped_line a b c d = do
-  l ← lane_in a
+  l ← lane_named a
   from ← long_in b
   to ← long_in c
   cause ← short_in d
@@ -143,13 +141,13 @@ four_words name a b c d =
 -- five words, of which the last is the bytes
 abbrev pub made_line : List ℕ → List ℕ → List ℕ → List ℕ → Option Line
 made_line a b c d = do
-  l ← lane_in a
+  l ← lane_named a
   k ← long_in b
   from ← long_in c
   to ← long_in d
   Some (Made l k from to)
 
-abbrev pub line_of : List (List ℕ) → Option Written
+abbrev pub line_of : List (List ℕ) → Option Entry
 line_of (name ∷ a ∷ []) = without_bytes (one_word name a)
 line_of (name ∷ a ∷ b ∷ []) = without_bytes (two_words name a b)
 line_of (name ∷ a ∷ b ∷ c ∷ []) = if bytes_eq name (codes "gave") then with_bytes c (gave_line a b) else without_bytes (three_words name a b c)
@@ -157,11 +155,11 @@ line_of (name ∷ a ∷ b ∷ c ∷ d ∷ []) = without_bytes (four_words name a
 line_of (name ∷ a ∷ b ∷ c ∷ d ∷ e ∷ []) = if bytes_eq name (codes "made") then with_bytes e (made_line a b c d) else None
 line_of words = None
 
-unfoldable pub line_in : List ℕ → Option Written
+unfoldable pub line_in : List ℕ → Option Entry
 line_in text = line_of (words_in text)
 
 -- the bytes with their line
-abbrev pub entry_with : Written → Option Entry
+abbrev pub entry_with : Entry → Option Entry
 entry_with (line, digits) = do
   bytes ← bytes_in digits
   Some (line, bytes)

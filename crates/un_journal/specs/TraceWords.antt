@@ -4,8 +4,6 @@ use Rattle.std.specs.List.{list_all}
 use Rattle.std.specs.Result.{result_ok}
 use Rattle.std.specs.Str.{bytes_eq}
 use Rattle.hex.specs.Hex.{decode_of}
-use Rattle.un_frame.specs.declared.params.Lane.{Lane}
-use Rattle.un_frame.specs.declared.params.Lane.TheVariants.{Outward, Inward}
 use Rattle.un_frame.specs.declared.kinds.FaultKind.{FaultKind}
 use Rattle.un_frame.specs.declared.kinds.FaultKind.TheVariants.{Proto, Halt}
 use Rattle.un_frame.specs.declared.kinds.Verdict.{Verdict}
@@ -21,9 +19,6 @@ unfoldable pub words_in : List ℕ → List (List ℕ)
 words_in [] = [] ∷ []
 words_in (c ∷ cs) = if c == 32 then [] ∷ words_in cs else onto_first c (words_in cs)
 
-abbrev pub lane_in : List ℕ → Option Lane
-lane_in word = if bytes_eq word (codes "out") then Some Outward else (if bytes_eq word (codes "in") then Some Inward else None)
-
 abbrev pub why_in : List ℕ → Option Verdict
 why_in word =
     if bytes_eq word (codes "short") then Some Short
@@ -31,8 +26,8 @@ why_in word =
     else (if bytes_eq word (codes "filtered") then Some Filtered
     else None))
 
-abbrev pub kind_in : List ℕ → Option FaultKind
-kind_in word = if bytes_eq word (codes "proto") then Some Proto else (if bytes_eq word (codes "halt") then Some Halt else None)
+abbrev pub kind_named : List ℕ → Option FaultKind
+kind_named word = if bytes_eq word (codes "proto") then Some Proto else (if bytes_eq word (codes "halt") then Some Halt else None)
 
 abbrev pub flag_in : List ℕ → Option Bool
 flag_in word = if bytes_eq word (codes "1") then Some true else (if bytes_eq word (codes "0") then Some false else None)

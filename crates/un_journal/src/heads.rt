@@ -1,7 +1,8 @@
 //! The head of a line: its name and its words, but for the bytes.
 
 ghost use Rattle.std.specs.Prelude.{◌≡◌, ◌+◌, ◌≤◌, ◌∷◌, ◌++◌, length, decimal};
-ghost use Rattle.un_journal.specs.Text.{lane_word, verdict_word, kind_word, flag_word, name_of, words_of, spaced};
+ghost use Rattle.un_frame.specs.Spelling.{lane_word};
+ghost use Rattle.un_journal.specs.Text.{verdict_word, kind_word, flag_word, name_of, words_of, spaced};
 
 use crate::buffer::{Buffer, number, word};
 use crate::lines::Line;
@@ -37,7 +38,7 @@ fn flag_word(flag: bool) -> &'static [u8]
 }
 
 fn lane_word(lane: Lane) -> &'static [u8]
-    ensures word { result.now ≡ Rattle.un_journal.specs.Text.lane_word lane }
+    ensures word { result.now ≡ Rattle.un_frame.specs.Spelling.lane_word lane }
     ensures short { length result.now ≤ 3 }
 {
     match lane {
@@ -49,7 +50,7 @@ fn lane_word(lane: Lane) -> &'static [u8]
 /// A name of at most 9 bytes, and a lane.
 fn lane(buffer: &mut Buffer, name: &[u8], lane: Lane)
     requires { (length buffer.old ≤ 8064) × (length name.now ≤ 9) }
-    ensures text { buffer.new ≡ (buffer.old ++ name.now) ++ 32 ∷ Rattle.un_journal.specs.Text.lane_word lane }
+    ensures text { buffer.new ≡ (buffer.old ++ name.now) ++ 32 ∷ Rattle.un_frame.specs.Spelling.lane_word lane }
     ensures longer { length buffer.new ≤ length buffer.old + 13 }
 {
     buffer.push(name);
@@ -59,7 +60,7 @@ fn lane(buffer: &mut Buffer, name: &[u8], lane: Lane)
 /// A name of at most 9 bytes, a lane and a number.
 fn one(buffer: &mut Buffer, name: &[u8], at: Lane, n: u64)
     requires { (length buffer.old ≤ 8064) × (length name.now ≤ 9) }
-    ensures text { buffer.new ≡ ((buffer.old ++ name.now) ++ 32 ∷ Rattle.un_journal.specs.Text.lane_word at) ++ 32 ∷ decimal n }
+    ensures text { buffer.new ≡ ((buffer.old ++ name.now) ++ 32 ∷ Rattle.un_frame.specs.Spelling.lane_word at) ++ 32 ∷ decimal n }
     ensures longer { length buffer.new ≤ length buffer.old + 34 }
 {
     lane(buffer, name, at);

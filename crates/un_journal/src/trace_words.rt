@@ -3,7 +3,8 @@
 ghost use Rattle.std.specs.Prelude.{◌≡◌, ◌<◌, ◌≤◌, ◌∷◌, [], length, MatchOption, IfSome};
 ghost use Rattle.std.specs.List.{list_all};
 ghost use Rattle.std.specs.Str.{bytes_eq};
-ghost use Rattle.un_journal.specs.TraceWords.{words_in, lane_in, why_in, kind_in, flag_in, is_digit, is_numeral, number_in, short_in, long_in};
+ghost use Rattle.un_frame.specs.Spelling.{lane_named};
+ghost use Rattle.un_journal.specs.TraceWords.{words_in, why_in, flag_in, is_digit, is_numeral, number_in, short_in, long_in, kind_named};
 
 use memchr::memchr;
 use un_frame::{FaultKind, Lane, Verdict};
@@ -28,7 +29,7 @@ pub fn cut_word(line: &[u8]) -> (&[u8], Option<&[u8]>)
 
 /// The lane of this name.
 pub fn lane(word: &[u8]) -> Option<Lane>
-    ensures { result ≡ lane_in word.now }
+    ensures { result ≡ lane_named word.now }
 {
     if is(word, b"out") {
         Some(Lane::Outward)
@@ -56,7 +57,7 @@ pub fn why(word: &[u8]) -> Option<Verdict>
 
 /// The kind of fault of this name.
 pub fn kind(word: &[u8]) -> Option<FaultKind>
-    ensures { result ≡ kind_in word.now }
+    ensures { result ≡ kind_named word.now }
 {
     if is(word, b"proto") {
         Some(FaultKind::Proto)

@@ -1,6 +1,8 @@
 -- A path whose accepted frame, or whose tick, made a transfer stands for the lane with the lines of it.
 use Rattle.std.proofs.Common.{◌≡◌, ℕ, ◌+◌, ◌-◌, ◌<◌, ◌≤◌, Bool, true, false, not, ◌&&◌, nat_lt, List, [], ◌∷◌, ◌++◌, length, drop, Some, None, is_some, ◌⊎◌, inl, inr, refl, sym, ap, ◌∙◌, subst, arith, length-drop, drop_of_length-le, if◌then◌else◌}
 use Rattle.std.proofs.lemmas.Bool.{false≢true}
+use Rattle.std.proofs.lemmas.Option.{same_Some}
+use Rattle.std.proofs.lemmas.List.{length_push}
 use Rattle.un_frame.specs.declared.params.Lane.{Lane}
 use Rattle.un_frame.specs.declared.params.Lane.TheVariants.{Outward, Inward}
 use Rattle.un_frame.specs.Lanes.{packs, frames_fit}
@@ -14,7 +16,6 @@ use Rattle.un_journal.specs.History.{History, taken, made, cover}
 use Rattle.un_lane.specs.Way.{Way}
 use Rattle.un_lane.specs.Phases.{Agrees, AreApart, Builds, IsSent, defers}
 use Rattle.un_lane.specs.Stands.{Stands, IsBuilt, claims_when, pends_when}
-use Rattle.un_lane.proofs.Counting.{length_more}
 use Rattle.un_lane.proofs.Offering.{closing_is, made_once, made_count}
 use Rattle.un_lane.proofs.Sending.{StandsBut, IsNew, queue_stands, defer_stands}
 
@@ -25,14 +26,11 @@ pub record IsClosed (a n : ℕ) (builds : Bool) (s : ℕ × ℕ) : Type 0 where
   pub most : s.1 ≤ n + 1
   pub blocks : (s.1 ≡ n + 1) ⊎ (builds ≡ true)
 
-some_span : (s t : ℕ × ℕ) → Some s ≡ Some t → s ≡ t
-some_span s t e = cc
-
 closed_as : (x y z : Bool) (a n : ℕ) (s : ℕ × ℕ) → (x ≡ false → a ≡ n)
     → (if not x then Some (n, n + 1) else (if y then Some (a, n) else (if z then Some (a, n + 1) else None))) ≡ Some s → IsClosed a n x s
-closed_as false y z a n s one e = subst (IsClosed a n false) (some_span (n, n + 1) s e) (record { begins = sym (one refl); least = omega arith; most = omega arith; blocks = inl refl })
-closed_as true true z a n s one e = subst (IsClosed a n true) (some_span (a, n) s e) (record { begins = refl; least = omega arith; most = omega arith; blocks = inr refl })
-closed_as true false true a n s one e = subst (IsClosed a n true) (some_span (a, n + 1) s e) (record { begins = refl; least = omega arith; most = omega arith; blocks = inr refl })
+closed_as false y z a n s one e = subst (IsClosed a n false) (same_Some (n, n + 1) s e) (record { begins = sym (one refl); least = omega arith; most = omega arith; blocks = inl refl })
+closed_as true true z a n s one e = subst (IsClosed a n true) (same_Some (a, n) s e) (record { begins = refl; least = omega arith; most = omega arith; blocks = inr refl })
+closed_as true false true a n s one e = subst (IsClosed a n true) (same_Some (a, n + 1) s e) (record { begins = refl; least = omega arith; most = omega arith; blocks = inr refl })
 closed_as true false false a n s one e = absurd (cc)
 
 pub but : (way : Way) (g : History) → Stands way g → StandsBut way.lane way.tx way.rx way.bus g
@@ -90,7 +88,7 @@ makes_built way g t sender frame x waited w m =
     let accepted : taken g ≡ way.accepted = w.building.accepted_is in
     let number : made g ≡ way.made = w.building.made_is in
     let covered : cover g + length way.tx.builder.frames ≡ taken g = w.building.covered in
-    let longer : length (with_frame way.tx frame) ≡ length way.tx.builder.frames + 1 = length_more way.tx.builder.frames frame in
+    let longer : length (with_frame way.tx frame) ≡ length way.tx.builder.frames + 1 = length_push way.tx.builder.frames frame in
     let left : length t.builder.frames ≡ length (with_frame way.tx frame) - (m.span.1 - m.span.0) = ap length m.left ∙ length-drop (m.span.1 - m.span.0) (with_frame way.tx frame) in
     let low : taken g ≤ m.span.1 = c.least in
     let high : m.span.1 ≤ taken g + 1 = c.most in

@@ -1,9 +1,11 @@
 -- A path that has dropped what it built stands for the lane with one line more.
 use Rattle.std.proofs.Common.{◌≡◌, ℕ, suc, ◌+◌, ◌-◌, ◌<◌, ◌≤◌, Bool, true, false, ◌&&◌, ◌==◌, if◌then◌else◌, nat_lt, List, [], ◌∷◌, ◌++◌, length, map, option_to_list, refl, sym, ap, ◌∙◌, subst, arith, length-append}
 use Rattle.std.proofs.lemmas.Bool.Decides.{nat_tests}
+use Rattle.un_facts.proofs.Copies.{copies_append}
+use Rattle.un_facts.specs.Lists.{copies}
 use Rattle.un_frame.specs.declared.params.Lane.{Lane}
 use Rattle.un_frame.specs.declared.params.Lane.TheVariants.{Outward, Inward}
-use Rattle.un_req.specs.Request.{copies, number_of}
+use Rattle.un_req.specs.Request.{number_of}
 use Rattle.un_endpoint.specs.Bus.{Bus}
 use Rattle.un_endpoint.specs.Ends.{Builder, Transmitter, Receiver}
 use Rattle.un_endpoint.specs.EndOutcomes.{Drops, without_build}
@@ -16,10 +18,6 @@ use Rattle.un_journal.specs.Step.{dropped_built}
 use Rattle.un_lane.specs.Controls.{LeavesBus}
 use Rattle.un_lane.specs.Way.{Way}
 use Rattle.un_lane.specs.Stands.{Stands, ArePlaced, claims_when, pends_when, flight_tx}
-
-copies_append : (n : ℕ) (xs ys : List ℕ) → copies n (xs ++ ys) ≡ copies n xs + copies n ys
-copies_append n [] ys = omega arith
-copies_append n (x ∷ xs) ys = let r : copies n (xs ++ ys) ≡ copies n xs + copies n ys = copies_append n xs ys in omega arith
 
 dropped_placed : (lane : Lane) (t : Transmitter) (r : Receiver) (bus : Bus) → ArePlaced lane t r bus → ArePlaced lane (without_build t) r bus
 dropped_placed lane t r bus p = record {

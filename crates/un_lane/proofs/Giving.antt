@@ -1,16 +1,21 @@
 -- A path that has given a datagram, posted a request or cleared the halt stands for the lane with one line more.
 use Rattle.std.proofs.Common.{◌≡◌, ℕ, suc, ◌+◌, ◌-◌, ◌<◌, ◌≤◌, Bool, true, false, not, ◌&&◌, eqb, List, [], ◌∷◌, ◌++◌, length, map, Some, None, refl, sym, ap, ◌∙◌, subst, arith}
 use Rattle.std.proofs.lemmas.Bool.{false≢true}
+use Rattle.std.proofs.lemmas.List.{length_push}
+use Rattle.un_facts.proofs.Copies.{copies_last}
+use Rattle.un_facts.proofs.Lists.{all_more}
+use Rattle.un_facts.specs.Lists.{copies, is_empty}
+use Rattle.un_facts.specs.Numbers.{one_if}
 use Rattle.un_frame.specs.declared.params.Lane.{Lane}
 use Rattle.un_frame.specs.Parts.{datagram_of}
-use Rattle.un_req.specs.Request.{Buffer, copies, number_of, one_if}
+use Rattle.un_req.specs.Request.{Buffer, number_of}
 use Rattle.un_endpoint.specs.Bus.{Bus}
 use Rattle.un_endpoint.specs.EndOutcomes.{IsLent, Steps, LeavesHome}
 use Rattle.un_endpoint.specs.Ends.{Transmitter, Receiver, Opened as Current, opened_number}
 use Rattle.un_journal.specs.declared.lines.Line.{Line}
 use Rattle.un_journal.specs.declared.lines.Line.TheVariants.{Gave, Posted, Cleared}
 use Rattle.un_journal.specs.LaneSteps.{Writes}
-use Rattle.un_journal.specs.History.{History, made, opened, current, serial_of as owner_of, first, span, made_bytes, left_of, row_from, is_empty}
+use Rattle.un_journal.specs.History.{History, made, opened, current, serial_of as owner_of, first, span, made_bytes, left_of, row_from}
 use Rattle.un_journal.specs.Sound.{IsNextNumber}
 use Rattle.un_journal.proofs.Lists.{those_first}
 use Rattle.un_journal.proofs.Legal.{owns_span, next_number_from}
@@ -19,7 +24,7 @@ use Rattle.un_lane.specs.Way.{Way}
 use Rattle.un_journal.specs.LaneSteps.{deliver_next}
 use Rattle.un_lane.specs.Stands.{Stands, ArePlaced, IsRx, IsText, IsLeft, CurrentIs, opened_serial, flight_rx}
 use Rattle.un_lane.proofs.Contents.{datagram_least}
-use Rattle.un_lane.proofs.Counting.{copies_last, copies_more, length_more, all_more}
+use Rattle.un_lane.proofs.Counting.{copies_more}
 
 -- what is left of the current request
 row_step : (n to' : ℕ) → n < to' → row_from n (to' - n) ≡ n ∷ row_from (n + 1) (to' - (n + 1))
@@ -92,7 +97,7 @@ finish_placed lane t r bus o p e = record {
       let w : 1 ≤ copies n r.home + copies n (map number_of r.arrived) + copies n (opened_number r.current) + (copies n (map number_of bus.posted) + copies n (flight_rx bus.flight)) = p.rx_some n low in omega arith;
   tx_all = p.tx_all;
   rx_all =
-      let h : length (r.home ++ o.request.number ∷ []) ≡ length r.home + 1 = length_more r.home o.request.number in
+      let h : length (r.home ++ o.request.number ∷ []) ≡ length r.home + 1 = length_push r.home o.request.number in
       let c : length (opened_number r.current) ≡ 1 = ap (λ x. length (opened_number x)) e in
       let w : length r.home + length r.arrived + length (opened_number r.current) + length bus.posted + length (flight_rx bus.flight) ≡ r.size = p.rx_all in omega arith;
   deferred_are = p.deferred_are;
@@ -206,7 +211,7 @@ module _ (way : Way) (g : History) (o : Current) (bytes : List ℕ) (w : Stands 
         };
         counts = rw (delivered_more way.lane o.next o.request.serial bytes g w.sound mine [] was_opened left) (record {
           tx = w.counts.tx;
-          rx = let l : length (way.rx.home ++ o.request.number ∷ []) ≡ length way.rx.home + 1 = length_more way.rx.home o.request.number in
+          rx = let l : length (way.rx.home ++ o.request.number ∷ []) ≡ length way.rx.home + 1 = length_push way.rx.home o.request.number in
               let s = w.counts.rx in omega (arith, s);
         });
         texts = record {
@@ -255,8 +260,8 @@ post_placed lane t r bus x home' p q known sized = record {
       let w : 1 ≤ copies n r.home + copies n (map number_of r.arrived) + copies n (opened_number r.current) + (copies n (map number_of bus.posted) + copies n (flight_rx bus.flight)) = p.rx_some n low in omega arith;
   tx_all = p.tx_all;
   rx_all =
-      let h : length r.home ≡ length home' + 1 = ap length q ∙ length_more home' x.number in
-      let o : length (bus.posted ++ x ∷ []) ≡ length bus.posted + 1 = length_more bus.posted x in
+      let h : length r.home ≡ length home' + 1 = ap length q ∙ length_push home' x.number in
+      let o : length (bus.posted ++ x ∷ []) ≡ length bus.posted + 1 = length_push bus.posted x in
       let w : length r.home + length r.arrived + length (opened_number r.current) + length bus.posted + length (flight_rx bus.flight) ≡ r.size = p.rx_all in omega arith;
   deferred_are = p.deferred_are;
   queued_are = p.queued_are;
@@ -279,13 +284,13 @@ post_stands way g r bus' x w l b =
         unmade = w.queues.unmade;
         flight_marked = w.queues.flight_marked;
         halts = w.queues.halts;
-        posted = let o : length (way.bus.posted ++ x ∷ []) ≡ length way.bus.posted + 1 = length_more way.bus.posted x in let s = w.queues.posted in omega (arith, s);
+        posted = let o : length (way.bus.posted ++ x ∷ []) ≡ length way.bus.posted + 1 = length_push way.bus.posted x in let s = w.queues.posted in omega (arith, s);
         grounded = w.queues.grounded;
       };
       ends = w.ends;
       counts = record {
         tx = w.counts.tx;
-        rx = let h : length way.rx.home ≡ length r.home + 1 = ap length l.left ∙ length_more r.home x.number in let s = w.counts.rx in omega (arith, s);
+        rx = let h : length way.rx.home ≡ length r.home + 1 = ap length l.left ∙ length_push r.home x.number in let s = w.counts.rx in omega (arith, s);
       };
       texts = w.texts;
     } in

@@ -1,28 +1,34 @@
 -- A path whose flight has ended stands for the lane with one line more.
 use Rattle.std.proofs.Common.{◌≡◌, ℕ, zero, suc, ◌+◌, ◌-◌, ◌<◌, ◌≤◌, Bool, true, false, not, ◌&&◌, ◌||◌, ◌==◌, eqb, List, [], ◌∷◌, ◌++◌, length, map, Option, Some, None, option_to_list, inl, inr, refl, sym, ap, ◌∙◌, subst, arith, filter}
 use Rattle.std.proofs.lemmas.Bool.{false≢true, cases_lt, cases_eq, cases_Bool}
+use Rattle.std.proofs.lemmas.List.{length_push}
+use Rattle.un_facts.proofs.Copies.{copies_last}
+use Rattle.un_facts.proofs.Lists.{all_more}
+use Rattle.un_facts.proofs.Booleans.{and_false}
+use Rattle.un_facts.specs.Lists.{copies, is_empty}
+use Rattle.un_facts.specs.Numbers.{one_if}
 use Rattle.un_frame.specs.declared.params.Lane.{Lane}
 use Rattle.un_frame.specs.declared.kinds.FaultKind.{FaultKind}
 use Rattle.un_frame.specs.declared.kinds.FaultKind.TheVariants.{Proto, Halt}
-use Rattle.un_req.specs.Request.{Buffer, copies, number_of, one_if}
+use Rattle.un_req.specs.Request.{Buffer, number_of}
 use Rattle.un_endpoint.specs.declared.record.FlightRecord.{FlightRecord}
 use Rattle.un_endpoint.specs.Bus.{Bus, Trip, record_of, received}
 use Rattle.un_endpoint.specs.Outcomes.{Arrives, Fails, IsSevered, halts}
 use Rattle.un_endpoint.specs.Ends.{Transmitter, Receiver, opened_number}
 use Rattle.un_journal.specs.declared.lines.Line.TheVariants.{Landed, Failed, Cut}
-use Rattle.un_journal.specs.History.{History, made, those, flies, waits, waiting, flying, ended, landed, failed, was_cut, opened, arrived, delivered, gave, serial_of as owner_of, mark, halted, posts, recalls, flights, first, span, made_bytes, left_of, row_from, is_empty}
+use Rattle.un_journal.specs.History.{History, made, those, flies, waits, waiting, flying, ended, landed, failed, was_cut, opened, arrived, delivered, gave, serial_of as owner_of, mark, halted, posts, recalls, flights, first, span, made_bytes, left_of, row_from, ends}
 use Rattle.un_journal.specs.Sound.{IsSound}
 use Rattle.un_journal.proofs.Lists.{those_first}
 use Rattle.un_journal.proofs.Legal.{quiet_grounded, fresh, owns_span, left_is}
 use Rattle.un_journal.proofs.Numbers.{given_from}
 use Rattle.un_journal.proofs.Status.{NoneEnded, aloft_only, status, status_of}
 use Rattle.un_journal.proofs.Given.{in_turn, top_below, top, landed_below}
-use Rattle.un_journal.proofs.Order.{ends, in_order, flight_is}
+use Rattle.un_journal.proofs.Order.{in_order, flight_is}
 use Rattle.un_lane.specs.Way.{Way}
 use Rattle.un_lane.specs.Stands.{Stands, ArePlaced, AreQueued, IsText, FlightIs, finished, serial_of, flight_serial, flight_tx, flight_rx}
-use Rattle.un_lane.proofs.Counting.{copies_last, copies_more, length_more, all_more, map_last}
+use Rattle.un_lane.proofs.Counting.{copies_more, map_last}
 use Rattle.un_lane.proofs.Finishing.{finish_plus}
-use Rattle.un_lane.proofs.Serials.{those_same, those_plus, those_nothing, and_false, apart, same_number}
+use Rattle.un_lane.proofs.Serials.{those_same, those_plus, those_nothing, apart, same_number}
 
 -- PLACES: the transmit request is done; the receive request has arrived, or is home
 
@@ -58,7 +64,7 @@ land_placed lane t r bus trip home' arrived' h p out numbers total = record {
       let w : 1 ≤ copies n r.home + copies n (map number_of r.arrived) + copies n (opened_number r.current) + (copies n (map number_of bus.posted) + copies n (flight_rx bus.flight)) = p.rx_some n low in omega arith;
   tx_all =
       let f : length (flight_tx bus.flight) ≡ 1 = ap (λ x. length (flight_tx x)) out in
-      let d : length (t.done ++ trip.tx ∷ []) ≡ length t.done + 1 = length_more t.done trip.tx in
+      let d : length (t.done ++ trip.tx ∷ []) ≡ length t.done + 1 = length_push t.done trip.tx in
       let w : length t.home + length (option_to_list t.builder.claim) + length t.deferred + length t.done + length bus.queue + length (flight_tx bus.flight) ≡ t.size = p.tx_all in omega arith;
   rx_all =
       let f : length (flight_rx bus.flight) ≡ 1 = ap (λ x. length (flight_rx x)) out in
@@ -77,10 +83,10 @@ numbers_arrived : (r : Receiver) (trip : Trip) (n : ℕ) → copies n r.home + c
 numbers_arrived r trip n = let e : copies n (map number_of (r.arrived ++ received trip ∷ [])) ≡ copies n (map number_of r.arrived) + one_if (eqb n trip.rx) = copies_more n r.arrived (received trip) in omega arith
 
 total_home : (r : Receiver) (x : ℕ) → length (r.home ++ x ∷ []) + length r.arrived ≡ length r.home + length r.arrived + 1
-total_home r x = let e : length (r.home ++ x ∷ []) ≡ length r.home + 1 = length_more r.home x in omega arith
+total_home r x = let e : length (r.home ++ x ∷ []) ≡ length r.home + 1 = length_push r.home x in omega arith
 
 total_arrived : (r : Receiver) (x : Buffer) → length r.home + length (r.arrived ++ x ∷ []) ≡ length r.home + length r.arrived + 1
-total_arrived r x = let e : length (r.arrived ++ x ∷ []) ≡ length r.arrived + 1 = length_more r.arrived x in omega arith
+total_arrived r x = let e : length (r.arrived ++ x ∷ []) ≡ length r.arrived + 1 = length_push r.arrived x in omega arith
 
 -- THE LANE'S LISTS, for a flight of k that ends
 
@@ -257,7 +263,7 @@ fail_stands way g bus' trip fault tx rx kind w out a =
       };
       counts = record {
         tx = w.counts.tx;
-        rx = let e : length (way.rx.home ++ trip.rx ∷ []) ≡ length way.rx.home + 1 = length_more way.rx.home trip.rx in
+        rx = let e : length (way.rx.home ++ trip.rx ∷ []) ≡ length way.rx.home + 1 = length_push way.rx.home trip.rx in
             let s = w.counts.rx in omega (arith, s);
       };
       texts = record {
@@ -290,7 +296,7 @@ sever_stands way g bus' trip tx rx c w out a =
       };
       counts = rw up (record {
         tx = w.counts.tx;
-        rx = let e : length (way.rx.home ++ trip.rx ∷ []) ≡ length way.rx.home + 1 = length_more way.rx.home trip.rx in
+        rx = let e : length (way.rx.home ++ trip.rx ∷ []) ≡ length way.rx.home + 1 = length_push way.rx.home trip.rx in
             let s = w.counts.rx in omega (arith, s);
       });
       texts = record {

@@ -83,7 +83,7 @@ lane_still_is script h way e = ap (λ p. is_lane_still p (phase_of script h) way
 
 -- THE NEXT PHASE
 
-defers_awake : (lane : Lane) → defers lane false ≡ false
+pub defers_awake : (lane : Lane) → defers lane false ≡ false
 defers_awake Outward = refl
 defers_awake Inward = refl
 

@@ -1,21 +1,22 @@
 -- What the history of a link with a phase looks up, by what the path has: what is deferred, queued and unmarked, and what is home.
 use Rattle.std.proofs.Common.{◌≡◌, ℕ, zero, suc, ◌<◌, ◌≤◌, Bool, true, false, not, ◌&&◌, ◌||◌, List, [], ◌∷◌, ◌++◌, length, map, drop, filter, Option, Some, None, is_some, inl, inr, refl, sym, ap, ◌∙◌, arith, append-nil, append_assoc, if◌then◌else◌}
 use Rattle.std.proofs.lemmas.Bool.{false≢true, cases_Bool, cases_lt}
+use Rattle.un_facts.proofs.Booleans.{and_false}
 use Rattle.un_frame.specs.declared.params.Lane.{Lane}
 use Rattle.un_frame.specs.declared.params.Lane.TheVariants.{Outward, Inward}
 use Rattle.un_frame.specs.declared.kinds.Phase.{Phase}
 use Rattle.un_frame.specs.declared.kinds.Phase.TheVariants.{Up, Asleep, Stopping, Leaving, Down, Away}
 use Rattle.un_endpoint.specs.declared.record.FlightRecord.{FlightRecord}
-use Rattle.un_journal.specs.History.{History, made, those, flies, waits, waiting, ended, mark}
+use Rattle.un_journal.specs.History.{History, made, those, flies, waits, waiting, ended, mark, ends}
 use Rattle.un_journal.specs.Lookup.{deferred, queued, unmarked, is_deferring, is_asleep}
 use Rattle.un_journal.specs.Sound.{IsSound}
-use Rattle.un_journal.proofs.Order.{ends, in_order, flight_is}
+use Rattle.un_journal.proofs.Order.{in_order, flight_is}
 use Rattle.un_lane.specs.Way.{Way}
 use Rattle.un_lane.specs.Phases.{Agrees, defers}
 use Rattle.un_lane.specs.Controls.{unmarked_flight, unmarked_in}
 use Rattle.un_lane.specs.Stands.{Stands, AreMarked, FlightIs, serial_of, flight_serial}
 use Rattle.un_journal.proofs.Homes.{ended_is}
-use Rattle.un_lane.proofs.Serials.{those_same, and_false}
+use Rattle.un_lane.proofs.Serials.{those_same}
 
 -- DEFERRED AND QUEUED
 

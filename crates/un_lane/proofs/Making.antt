@@ -2,6 +2,7 @@
 use Rattle.std.proofs.Common.{◌≡◌, ℕ, zero, suc, ◌+◌, ◌-◌, ◌<◌, ◌≤◌, Bool, true, false, not, ◌&&◌, ◌==◌, List, [], ◌∷◌, ◌++◌, length, map, Option, Some, None, ◌⊎◌, inl, inr, refl, sym, ap, ◌∙◌, subst, arith, add-one, append-nil, nat_le, if◌then◌else◌}
 use Rattle.std.proofs.lemmas.Bool.{false≢true, ne_eqb, eq-eqb, cases_eq, false_from_ne_true}
 use Rattle.std.specs.List.{AllByRecursion}
+use Rattle.un_facts.specs.Lists.{is_empty}
 use Rattle.un_frame.specs.declared.params.Lane.{Lane}
 use Rattle.un_frame.specs.declared.params.Class.{Class}
 use Rattle.un_frame.specs.Parts.{ReadsAs}
@@ -10,7 +11,7 @@ use Rattle.un_endpoint.specs.declared.record.FlightRecord.{FlightRecord}
 use Rattle.un_endpoint.specs.Bus.{Bus}
 use Rattle.un_endpoint.specs.Ends.{Opened as Current}
 use Rattle.un_journal.specs.declared.lines.Line.TheVariants.{Made}
-use Rattle.un_journal.specs.History.{History, made, those, flies, waits, waiting, flying, ended, landed, failed, was_cut, opened, arrived, current, delivered, mark, halted, posts, recalls, flights, returned, first, span, made_bytes, left_of, is_empty, told_if}
+use Rattle.un_journal.specs.History.{History, made, those, flies, waits, waiting, flying, ended, landed, failed, was_cut, opened, arrived, current, delivered, mark, halted, posts, recalls, flights, returned, first, span, made_bytes, left_of, told_if}
 use Rattle.un_journal.specs.Sound.{IsSound}
 use Rattle.un_journal.proofs.Lists.{those_first}
 use Rattle.un_journal.proofs.Status.{Quiet, status, status_of, is_aloft, is_arrived, is_faulted, is_severed}

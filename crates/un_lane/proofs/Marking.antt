@@ -1,7 +1,7 @@
 -- A path that has marked a transfer stands for the lane with one line more.
 use Rattle.std.proofs.Common.{◌≡◌, ℕ, zero, suc, ◌<◌, Bool, true, false, not, ◌&&◌, List, [], ◌∷◌, ◌++◌, length, map, drop, Option, Some, None, is_some, slice_get, inl, inr, refl, sym, ap, ◌∙◌, subst, arith, add-one, append-nil, drop_of_length-le, if◌then◌else◌}
 use Rattle.std.proofs.lemmas.Bool.{false≢true}
-use Rattle.std.proofs.lemmas.List.{length-map}
+use Rattle.std.proofs.lemmas.List.{length-map, length_push}
 use Rattle.std.proofs.lemmas.Option.{slice_get-map}
 use Rattle.std.specs.List.{AllByRecursion}
 use Rattle.std.specs.Option.{option_map}
@@ -19,7 +19,6 @@ use Rattle.un_journal.proofs.Lists.{those_first}
 use Rattle.un_lane.specs.Way.{Way}
 use Rattle.un_lane.specs.Controls.{unmarked_flight, unmarked_in}
 use Rattle.un_lane.specs.Stands.{Stands, ArePlaced, AreQueued, AreMarked, FlightIs, serial_of, flight_serial}
-use Rattle.un_lane.proofs.Counting.{length_more}
 use Rattle.un_lane.proofs.Making.{those_below}
 use Rattle.un_lane.proofs.Serials.{apart, same_number}
 
@@ -245,7 +244,7 @@ mark_first bus bus' c k (inl m) =
 mark_first bus bus' c k (inr m) =
     let none : unmarked_flight bus.flight bus.flight_mark ≡ [] = no_flight bus.flight bus.flight_mark m.no_flight in
     let at : slice_get (map serial_of bus.queue) (length bus.marks) ≡ Some k = slice_get-map serial_of bus.queue (length bus.marks) ∙ (ap (option_map serial_of) m.found ∙ ap Some m.serial_is) in
-    let longer : length (bus.marks ++ c ∷ []) ≡ suc (length bus.marks) = length_more bus.marks c ∙ add-one (length bus.marks) in
+    let longer : length (bus.marks ++ c ∷ []) ≡ suc (length bus.marks) = length_push bus.marks c ∙ add-one (length bus.marks) in
     let new : unmarked_in bus' ≡ drop (suc (length bus.marks)) (map serial_of bus.queue) = ap unmarked_in m.rest ∙ (ap (λ ks. ks ++ drop (length (bus.marks ++ c ∷ [])) (map serial_of bus.queue)) none ∙ ap (λ n. drop n (map serial_of bus.queue)) longer) in
     ap (λ ks. ks ++ drop (length bus.marks) (map serial_of bus.queue)) none ∙ (drop_at_some (map serial_of bus.queue) (length bus.marks) k at ∙ ap (λ ks. k ∷ ks) (sym new))
 

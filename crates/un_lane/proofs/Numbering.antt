@@ -3,6 +3,7 @@ use Rattle.std.proofs.Common.{◌≡◌, ℕ, zero, suc, ◌+◌, ◌-◌, ◌<�
 use Rattle.std.proofs.lemmas.Bool.{false≢true}
 use Rattle.std.proofs.lemmas.Bool.Decides.{nat_tests}
 use Rattle.std.specs.List.{AllByRecursion}
+use Rattle.un_facts.specs.Numbers.{one_if, within}
 use Rattle.un_frame.specs.declared.params.Lane.{Lane}
 use Rattle.un_frame.specs.declared.params.Lane.TheVariants.{Outward, Inward}
 use Rattle.un_frame.specs.declared.params.Params.{Params}
@@ -10,7 +11,7 @@ use Rattle.un_frame.specs.declared.kinds.Phase.{Phase}
 use Rattle.un_frame.specs.Lanes.{packs}
 use Rattle.un_req.specs.Request.{Buffer}
 use Rattle.un_endpoint.specs.declared.record.FlightRecord.{FlightRecord}
-use Rattle.un_endpoint.specs.Bus.{is_between, one_if, queued_count, flight_count}
+use Rattle.un_endpoint.specs.Bus.{queued_count, flight_count}
 use Rattle.un_endpoint.specs.Ends.{Builder, Opened as Current, is_block, is_built, built_count, remainder_count, deferred_count, arrived_count, current_count}
 use Rattle.un_journal.specs.declared.census.Census.{Census}
 use Rattle.un_journal.specs.Census.{occurrences, numbers_of, built_numbers, in_block, outside_block, left_in, lane_census}
@@ -24,10 +25,10 @@ use Rattle.un_lane.proofs.Lookups.{queued_is, deferred_is}
 
 -- NUMBERS IN A ROW
 
-between_none : (a n : ℕ) → is_between a (a + 0) n ≡ false
+between_none : (a n : ℕ) → within a (a + 0) n ≡ false
 between_none a n = grind (arith, nat_tests)
 
-span_count : (n a b : ℕ) → a < b → occurrences n (row_from a (b - a)) ≡ one_if (is_between a b n)
+span_count : (n a b : ℕ) → a < b → occurrences n (row_from a (b - a)) ≡ one_if (within a b n)
 span_count n a b h = occurrences_numbers n a b (omega arith)
 
 -- TRANSFERS
@@ -38,7 +39,7 @@ spans_count g n [] some a = refl
 spans_count g n (x ∷ xs) some a =
     occurrences_append n (span_numbers (span g x.serial)) (numbers_of g (map serial_of xs))
     ∙ (ap (λ k. k + occurrences n (numbers_of g (map serial_of xs))) (ap (λ s. occurrences n (span_numbers s)) a.0.span_is ∙ span_count n x.from x.to (some x.serial x.from x.to a.0.span_is))
-    ∙ ap (λ k. one_if (is_between x.from x.to n) + k) (spans_count g n xs some a.1))
+    ∙ ap (λ k. one_if (within x.from x.to n) + k) (spans_count g n xs some a.1))
 
 flight_counted : (g : History) (n : ℕ) (flight : Option FlightRecord) → ((k a b : ℕ) → span g k ≡ Some (a, b) → a < b) → FlightIs (λ f. span g f.serial ≡ Some (f.from, f.to)) flight
     → occurrences n (numbers_of g (flight_serial flight)) ≡ flight_count n flight
@@ -57,7 +58,7 @@ current_counted g n (Some o) a = ap (occurrences n) a.numbers ∙ span_count n o
 built_some : (b : Builder) (n : ℕ) → is_built b n ≡ true → 0 < length b.frames
 built_some b n e = elim (cases_lt_zero (length b.frames)) [
   | inl h ↦ h
-  | inr z ↦ absurd (false≢true (sym (between_none b.from n) ∙ (ap (λ k. is_between b.from (b.from + k) n) (sym z) ∙ e)))
+  | inr z ↦ absurd (false≢true (sym (between_none b.from n) ∙ (ap (λ k. within b.from (b.from + k) n) (sym z) ∙ e)))
 ]
   where
     cases_lt_zero : (m : ℕ) → (0 < m) ⊎ (m ≡ 0)
@@ -69,11 +70,11 @@ built_is way g n w =
     ap (λ m. occurrences n (row_from (cover g) m)) (let s : taken g - cover g ≡ length way.tx.builder.frames = let c : cover g + length way.tx.builder.frames ≡ taken g = w.building.covered in omega arith in s)
     ∙ (occurrences_row n (cover g) (length way.tx.builder.frames) ∙ go (length way.tx.builder.frames) refl)
   where
-    go : (m : ℕ) → length way.tx.builder.frames ≡ m → one_if (is_between (cover g) (cover g + length way.tx.builder.frames) n) ≡ one_if (is_built way.tx.builder n)
+    go : (m : ℕ) → length way.tx.builder.frames ≡ m → one_if (within (cover g) (cover g + length way.tx.builder.frames) n) ≡ one_if (is_built way.tx.builder n)
     go zero e =
-        ap (λ k. one_if (is_between (cover g) (cover g + k) n)) e ∙ (ap one_if (between_none (cover g) n ∙ sym (between_none way.tx.builder.from n))
-        ∙ ap (λ k. one_if (is_between way.tx.builder.from (way.tx.builder.from + k) n)) (sym e))
-    go (suc m) e = ap (λ a. one_if (is_between a (a + length way.tx.builder.frames) n)) (sym (w.building.from_is (omega (arith, e))))
+        ap (λ k. one_if (within (cover g) (cover g + k) n)) e ∙ (ap one_if (between_none (cover g) n ∙ sym (between_none way.tx.builder.from n))
+        ∙ ap (λ k. one_if (within way.tx.builder.from (way.tx.builder.from + k) n)) (sym e))
+    go (suc m) e = ap (λ a. one_if (within a (a + length way.tx.builder.frames) n)) (sym (w.building.from_is (omega (arith, e))))
 
 -- where a number is built, the block is open as the builder says
 block_is : (lane : Lane) (params : Params) (g : History) (b : Builder) → is_some b.claim ≡ claims_when lane (packs params.class lane && nat_lt 0 (taken g - cover g) && took_last g)

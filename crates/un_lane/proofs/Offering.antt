@@ -2,24 +2,26 @@
 use Rattle.std.proofs.Common.{◌≡◌, ℕ, ◌+◌, ◌-◌, ◌<◌, ◌≤◌, min, Bool, true, false, not, ◌&&◌, ◌==◌, eqb, nat_lt, nat_le, List, [], ◌∷◌, ◌++◌, length, map, Option, Some, None, is_some, option_to_list, inl, inr, refl, sym, ap, ◌∙◌, subst, arith, if◌then◌else◌}
 use Rattle.std.proofs.lemmas.Bool.{false≢true, cases_lt}
 use Rattle.std.proofs.lemmas.Bool.Decides.{nat_tests}
+use Rattle.std.proofs.lemmas.List.{length_push}
+use Rattle.un_facts.proofs.Copies.{copies_last}
+use Rattle.un_facts.specs.Lists.{copies}
+use Rattle.un_facts.specs.Numbers.{one_if}
 use Rattle.un_frame.specs.declared.params.Params.{Params}
 use Rattle.un_frame.specs.declared.params.Lane.{Lane}
 use Rattle.un_frame.specs.declared.params.Lane.TheVariants.{Outward, Inward}
-use Rattle.un_frame.specs.Lanes.{packs}
+use Rattle.un_frame.specs.Lanes.{packs, tx_size}
 use Rattle.un_frame.specs.Cut.{closed_span}
-use Rattle.un_req.specs.Request.{Buffer, copies, number_of, one_if}
+use Rattle.un_req.specs.Request.{Buffer, number_of}
 use Rattle.un_endpoint.specs.EndOutcomes.{Uses, Claimed, FromHome, Keeps, Makes, IsBusy, with_frame, closing, frame_needs_home, pending_after}
 use Rattle.un_endpoint.specs.Ends.{Transmitter}
 use Rattle.un_journal.specs.declared.lines.Line.{Line}
 use Rattle.un_journal.specs.declared.lines.Line.TheVariants.{Took}
 use Rattle.un_journal.specs.declared.actions.Answer.{Answer}
 use Rattle.un_journal.specs.LaneSteps.{Writes, Answers, bare, accept}
-use Rattle.un_journal.specs.Script.{tx_size}
 use Rattle.un_journal.specs.History.{History, taken, made, cover, took_last, waited_after, returned}
 use Rattle.un_journal.specs.Lookup.{tx_home, block_claims, offer_needs_home}
 use Rattle.un_lane.specs.Way.{Way}
 use Rattle.un_lane.specs.Stands.{Stands, claims_when, pends_when, flight_tx}
-use Rattle.un_lane.proofs.Counting.{copies_last, length_more}
 
 -- WHAT THE BUILDER AND THE HISTORY SAY OF ONE ANOTHER
 
@@ -64,7 +66,7 @@ needs_is params Inward g claim closed e = refl
 uses_can : (lane : Lane) (old new : Transmitter) (n : ℕ) (closed : Option (ℕ × ℕ)) (is_open : Bool) → is_some old.builder.claim ≡ claims_when lane is_open → Uses old new n
     → (frame_needs_home lane old.builder.claim closed && (length old.home == 0)) ≡ false
 uses_can lane old new n closed is_open c (FromHome none known e) =
-    rw (zero_no (length old.home) (let l : length old.home ≡ length new.home + 1 = ap length e ∙ length_more new.home n in omega arith)) (and_no _)
+    rw (zero_no (length old.home) (let l : length old.home ≡ length new.home + 1 = ap length e ∙ length_push new.home n in omega arith)) (and_no _)
   where
     zero_no : (m : ℕ) → 0 < m → (m == 0) ≡ false
     zero_no m h = grind (arith, nat_tests)
@@ -127,7 +129,7 @@ keep_count old new n (Claimed e same) c =
     let a : length new.home ≡ length old.home = ap length same in
     let b : length (option_to_list new.builder.claim) ≡ length (option_to_list old.builder.claim) = ap (λ o. length (option_to_list o)) (c ∙ sym e) in omega arith
 keep_count old new n (FromHome e known h) c =
-    let a : length old.home ≡ length new.home + 1 = ap length h ∙ length_more new.home n in
+    let a : length old.home ≡ length new.home + 1 = ap length h ∙ length_push new.home n in
     let b : length (option_to_list new.builder.claim) ≡ 1 = ap (λ o. length (option_to_list o)) c in
     let d : length (option_to_list old.builder.claim) ≡ 0 = ap (λ o. length (option_to_list o)) e in omega arith
 
@@ -151,7 +153,7 @@ made_count old new n (Claimed e same) c =
     let b : length (option_to_list new.builder.claim) ≡ 0 = ap (λ o. length (option_to_list o)) c in
     let d : length (option_to_list old.builder.claim) ≡ 1 = ap (λ o. length (option_to_list o)) e in omega arith
 made_count old new n (FromHome e known h) c =
-    let a : length old.home ≡ length new.home + 1 = ap length h ∙ length_more new.home n in
+    let a : length old.home ≡ length new.home + 1 = ap length h ∙ length_push new.home n in
     let b : length (option_to_list new.builder.claim) ≡ 0 = ap (λ o. length (option_to_list o)) c in
     let d : length (option_to_list old.builder.claim) ≡ 0 = ap (λ o. length (option_to_list o)) e in omega arith
 
@@ -230,7 +232,7 @@ keep_stands way g t sender frame w k =
     let builds : packs way.tx.params.class way.lane ≡ true = closing_builds way.tx.params way.lane (with_frame way.tx frame) (cover g) (taken g + 1 - 1) closed in
     let accepted : taken g ≡ way.accepted = w.building.accepted_is in
     let covered : cover g + length way.tx.builder.frames ≡ taken g = w.building.covered in
-    let longer : length (way.tx.builder.frames ++ frame ∷ []) ≡ length way.tx.builder.frames + 1 = length_more way.tx.builder.frames frame in
+    let longer : length (way.tx.builder.frames ++ frame ∷ []) ≡ length way.tx.builder.frames + 1 = length_push way.tx.builder.frames frame in
     let longer' : length t.builder.frames ≡ length way.tx.builder.frames + 1 = ap length k.frames_are ∙ longer in
     let is_open : (packs way.tx.params.class way.lane && nat_lt 0 (taken g + 1 - cover g) && true) ≡ true = rw (builds, lt_yes 0 (taken g + 1 - cover g) (omega arith)) refl in
     let stands : Stands (record way { accepted = way.accepted + 1; tx = record way.tx { home = t.home; builder = t.builder } }) ((Took way.lane sender, []) ∷ g) = record {

@@ -1,26 +1,29 @@
 -- A path whose done request came home, or whose first arrived request became current, stands for the lane with one line more.
 use Rattle.std.proofs.Common.{◌≡◌, ℕ, zero, suc, ◌+◌, ◌-◌, ◌<◌, ◌≤◌, Bool, true, false, not, ◌&&◌, ◌||◌, ◌==◌, eqb, List, [], ◌∷◌, ◌++◌, length, map, Option, Some, None, is_some, option_to_list, ◌⊎◌, inl, inr, refl, sym, ap, ◌∙◌, subst, arith, nat_le, filter}
-use Rattle.std.proofs.lemmas.Bool.{false≢true, cases_lt, cases_Bool}
+use Rattle.std.proofs.lemmas.Bool.{false≢true, cases_lt, cases_Bool, le-leb, and_parts}
 use Rattle.std.proofs.lemmas.Bool.Decides.{nat_tests}
 use Rattle.std.specs.List.{AllByRecursion}
+use Rattle.std.proofs.lemmas.List.{length_push}
+use Rattle.un_facts.proofs.Copies.{copies_last}
+use Rattle.un_facts.specs.Lists.{copies, is_empty}
+use Rattle.un_facts.specs.Numbers.{one_if}
 use Rattle.un_frame.specs.declared.params.Lane.{Lane}
-use Rattle.un_req.specs.Request.{Buffer, copies, number_of, one_if}
+use Rattle.un_req.specs.Request.{Buffer, number_of}
 use Rattle.un_endpoint.specs.Bus.{Bus}
 use Rattle.un_endpoint.specs.EndOutcomes.{ComesHome, Opens, OpensNothing}
 use Rattle.un_endpoint.specs.Ends.{Transmitter, Receiver, Opened as Current, opened_number}
 use Rattle.un_journal.specs.declared.lines.Line.TheVariants.{TxHome, Opened}
 use Rattle.un_journal.specs.declared.actions.Answer.{Answer}
 use Rattle.un_journal.specs.LaneSteps.{Writes, Answers, bare, tx_done, rx_done, rx_done_at, open_first}
-use Rattle.un_journal.specs.History.{History, made, those, ended, landed, opened, arrived, current, gave, serial_of as owner_of, returned, first, span, made_bytes, left_of, row_from, is_empty}
+use Rattle.un_journal.specs.History.{History, made, those, ended, landed, opened, arrived, current, gave, serial_of as owner_of, returned, first, span, made_bytes, left_of, row_from, ends}
 use Rattle.un_journal.specs.Sound.{IsSound}
 use Rattle.un_journal.proofs.Lists.{those_first, those_none, those_rest}
 use Rattle.un_journal.proofs.Legal.{fresh, owns_span, left_is, arrived_from}
 use Rattle.un_journal.proofs.Numbers.{given_from}
 use Rattle.un_journal.proofs.Unique.{those_first_is}
-use Rattle.un_journal.proofs.Order.{ends, is_over, in_order}
+use Rattle.un_journal.proofs.Order.{is_over, in_order}
 use Rattle.un_lane.specs.Way.{Way}
 use Rattle.un_lane.specs.Stands.{Stands, ArePlaced, IsText, finished, serial_of, opened_serial, flight_tx, flight_rx}
-use Rattle.un_lane.proofs.Counting.{copies_last, length_more}
 use Rattle.un_journal.proofs.Homes.{ended_is, ended_below}
 use Rattle.un_lane.proofs.Serials.{apart, same_number}
 
@@ -32,35 +35,27 @@ ended_made g sound j e = elim (cases_lt j (made g)) [
   | inr h ↦ absurd (false≢true (sym (ended_is g sound j ∙ ap is_over (fresh g sound j h)) ∙ e))
 ]
 
-le_yes : (a b : ℕ) → a ≤ b → nat_le a b ≡ true
-le_yes a b h = grind (arith, nat_tests)
-
 le_means : (a b : ℕ) → nat_le a b ≡ true → a ≤ b
 le_means a b h = grind (arith, nat_tests)
 
 le_next : (k j : ℕ) → (j ≡ k → ⊥) → nat_le (k + 1) j ≡ nat_le k j
 le_next k j ne = elim (cases_lt k j) [
-  | inl h ↦ le_yes (k + 1) j (omega arith) ∙ sym (le_yes k j (omega arith))
+  | inl h ↦ le-leb (k + 1) j (omega arith) ∙ sym (le-leb k j (omega arith))
   | inr h ↦ le_no (k + 1) j (omega arith) ∙ sym (le_no k j (omega (arith, ne)))
 ]
   where
     le_no : (a b : ℕ) → b < a → nat_le a b ≡ false
     le_no a b h = grind (arith, nat_tests)
 
-and_both : (a b : Bool) → (a && b) ≡ true → (a ≡ true) × (b ≡ true)
-and_both true true e = (refl, refl)
-and_both true false e = absurd (false≢true e)
-and_both false b e = absurd (false≢true e)
-
 pub first_done : (g : History) (k : ℕ) (ks : List ℕ) → IsSound g → finished g ≡ k ∷ ks → (k ≡ returned g) × (ended g k ≡ true)
 first_done g k ks sound e =
     let f = those_first (λ j. ended g j && nat_le (returned g) j) (made g) k (ap first e) in
-    let both = and_both (ended g k) (nat_le (returned g) k) f.passes in
+    let both = and_parts (ended g k) (nat_le (returned g) k) f.passes in
     let low : returned g ≤ k = le_means (returned g) k both.1 in
     let high : k < ends g = ended_below g sound k both.0 in
     let over : ended g (returned g) ≡ true = ended_is g sound (returned g) ∙ (in_order g sound (returned g)).below (omega arith) in (
       elim (cases_lt (returned g) k) [
-        | inl h ↦ absurd (false≢true (sym (f.is_least (returned g) h) ∙ rw (over, le_yes (returned g) (returned g) (omega arith)) refl))
+        | inl h ↦ absurd (false≢true (sym (f.is_least (returned g) h) ∙ rw (over, le-leb (returned g) (returned g) (omega arith)) refl))
         | inr h ↦ omega arith
       ],
       both.0,
@@ -69,7 +64,7 @@ first_done g k ks sound e =
 pub none_done : (g : History) → IsSound g → finished g ≡ [] → ended g (returned g) ≡ false
 none_done g sound e = elim (cases_Bool (ended g (returned g))) [
   | inl t ↦ absurd (false≢true (sym (those_none (λ j. ended g j && nat_le (returned g) j) (made g) e (returned g) (ended_made g sound (returned g) t))
-      ∙ rw (t, le_yes (returned g) (returned g) (omega arith)) refl))
+      ∙ rw (t, le-leb (returned g) (returned g) (omega arith)) refl))
   | inr f ↦ f
 ]
 
@@ -106,7 +101,7 @@ home_placed lane t r bus x home' done' p q h = record {
   rx_some = p.rx_some;
   tx_all =
       let e : length t.done ≡ suc (length done') = ap length q in
-      let d : length home' ≡ length t.home + 1 = ap length h ∙ length_more t.home x.number in
+      let d : length home' ≡ length t.home + 1 = ap length h ∙ length_push t.home x.number in
       let w : length t.home + length (option_to_list t.builder.claim) + length t.deferred + length t.done + length bus.queue + length (flight_tx bus.flight) ≡ t.size = p.tx_all in omega arith;
   rx_all = p.rx_all;
   deferred_are = p.deferred_are;
@@ -135,7 +130,7 @@ tx_done_stands way g t serial w h =
         left_is = w.ends.left_is;
       };
       counts = record {
-        tx = let e : length t.home ≡ length way.tx.home + 1 = ap length h.home_is ∙ length_more way.tx.home h.request.number in let s = w.counts.tx in omega (arith, s);
+        tx = let e : length t.home ≡ length way.tx.home + 1 = ap length h.home_is ∙ length_push way.tx.home h.request.number in let s = w.counts.tx in omega (arith, s);
         rx = w.counts.rx;
       };
       texts = w.texts;
@@ -222,7 +217,7 @@ module _ (l : Lane) (k : ℕ) (g : History) (sound : IsSound g) (ks : List ℕ) 
   landed_here : (landed g k ≡ true) × (opened g k ≡ false)
   landed_here =
       let f = those_first (λ j. landed g j && not (opened g j)) (made g) k (ap first arr) in
-      let both = and_both (landed g k) (not (opened g k)) f.passes in
+      let both = and_parts (landed g k) (not (opened g k)) f.passes in
       (both.0, flip (opened g k) both.1)
     where
       flip : (b : Bool) → not b ≡ true → b ≡ false

@@ -1,14 +1,17 @@
 -- A path whose first posted request came home stands for the lane with one line more.
 use Rattle.std.proofs.Common.{◌≡◌, suc, ◌+◌, ◌≤◌, eqb, [], ◌∷◌, ◌++◌, length, map, subst, arith}
+use Rattle.std.proofs.lemmas.List.{length_push}
+use Rattle.un_facts.proofs.Copies.{copies_last}
+use Rattle.un_facts.specs.Lists.{copies}
+use Rattle.un_facts.specs.Numbers.{one_if}
 use Rattle.un_frame.specs.declared.params.Lane.{Lane}
-use Rattle.un_req.specs.Request.{Buffer, copies, number_of, one_if}
+use Rattle.un_req.specs.Request.{Buffer, number_of}
 use Rattle.un_endpoint.specs.Bus.{Bus}
 use Rattle.un_endpoint.specs.Ends.{Transmitter, Receiver, opened_number}
 use Rattle.un_journal.specs.declared.lines.Line.TheVariants.{Recalled}
 use Rattle.un_journal.specs.History.{History}
 use Rattle.un_lane.specs.Way.{Way}
 use Rattle.un_lane.specs.Stands.{Stands, ArePlaced, flight_rx}
-use Rattle.un_lane.proofs.Counting.{copies_last, length_more}
 
 recall_placed : (lane : Lane) (t : Transmitter) (r : Receiver) (bus : Bus) (x : Buffer) → ArePlaced lane t r (record bus { posted = x ∷ bus.posted })
     → ArePlaced lane t (record r { home = r.home ++ x.number ∷ [] }) bus
@@ -32,7 +35,7 @@ recall_placed lane t r bus x p = record {
       let w : 1 ≤ copies n r.home + copies n (map number_of r.arrived) + copies n (opened_number r.current) + (one_if (eqb n x.number) + copies n (map number_of bus.posted) + copies n (flight_rx bus.flight)) = p.rx_some n low in omega arith;
   tx_all = p.tx_all;
   rx_all =
-      let h : length (r.home ++ x.number ∷ []) ≡ length r.home + 1 = length_more r.home x.number in
+      let h : length (r.home ++ x.number ∷ []) ≡ length r.home + 1 = length_push r.home x.number in
       let w : length r.home + length r.arrived + length (opened_number r.current) + suc (length bus.posted) + length (flight_rx bus.flight) ≡ r.size = p.rx_all in omega arith;
   deferred_are = p.deferred_are;
   queued_are = p.queued_are;
@@ -62,7 +65,7 @@ recall_stands way g bus' x w' e =
       ends = w.ends;
       counts = record {
         tx = w.counts.tx;
-        rx = let h : length (way.rx.home ++ x.number ∷ []) ≡ length way.rx.home + 1 = length_more way.rx.home x.number in let s = w.counts.rx in omega (arith, s);
+        rx = let h : length (way.rx.home ++ x.number ∷ []) ≡ length way.rx.home + 1 = length_push way.rx.home x.number in let s = w.counts.rx in omega (arith, s);
       };
       texts = w.texts;
     }

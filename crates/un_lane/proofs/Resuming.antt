@@ -1,15 +1,19 @@
 -- A path whose deferred transfers were queued stands for the lines that it stood for.
 use Rattle.std.proofs.Common.{◌≡◌, ℕ, suc, ◌+◌, ◌<◌, ◌≤◌, eqb, List, [], ◌∷◌, ◌++◌, length, map, option_to_list, refl, sym, ap, ◌∙◌, subst, arith, append-nil, append_assoc, Bool, Option}
 use Rattle.std.specs.List.{AllByRecursion}
+use Rattle.std.proofs.lemmas.List.{length_push}
+use Rattle.un_facts.proofs.Lists.{all_more}
+use Rattle.un_facts.specs.Lists.{copies}
+use Rattle.un_facts.specs.Numbers.{one_if}
 use Rattle.un_frame.specs.declared.params.Lane.{Lane}
-use Rattle.un_req.specs.Request.{Buffer, copies, number_of, one_if}
+use Rattle.un_req.specs.Request.{Buffer, number_of}
 use Rattle.un_endpoint.specs.Bus.{Bus}
 use Rattle.un_endpoint.specs.Ends.{Transmitter, Receiver}
 use Rattle.un_journal.specs.History.{History}
 use Rattle.un_lane.specs.Way.{Way}
 use Rattle.un_lane.specs.Controls.{resumed, QueuesFirst}
 use Rattle.un_lane.specs.Stands.{Stands, ArePlaced, AreQueued, AreMarked, IsTx, serial_of, flight_tx}
-use Rattle.un_lane.proofs.Counting.{copies_more, length_more, all_more}
+use Rattle.un_lane.proofs.Counting.{copies_more}
 
 pub queue_placed : (lane : Lane) (t : Transmitter) (r : Receiver) (bus : Bus) (x : Buffer) (xs : List Buffer) → ArePlaced lane t r bus → t.deferred ≡ x ∷ xs
     → ArePlaced lane (record t { deferred = xs }) r (record bus { queue = bus.queue ++ x ∷ [] })
@@ -37,7 +41,7 @@ queue_placed lane t r bus x xs p q =
       rx_some = p.rx_some;
       tx_all =
           let e : length t.deferred ≡ suc (length xs) = ap length q in
-          let d : length (bus.queue ++ x ∷ []) ≡ length bus.queue + 1 = length_more bus.queue x in
+          let d : length (bus.queue ++ x ∷ []) ≡ length bus.queue + 1 = length_push bus.queue x in
           let w : length t.home + length (option_to_list t.builder.claim) + length t.deferred + length t.done + length bus.queue + length (flight_tx bus.flight) ≡ t.size = p.tx_all in omega arith;
       rx_all = p.rx_all;
       deferred_are = are.1;

@@ -1,17 +1,22 @@
 -- A path that has made a transfer and sent it stands for the lane with its made line.
 use Rattle.std.proofs.Common.{◌≡◌, ℕ, ◌+◌, ◌-◌, ◌<◌, ◌≤◌, eqb, List, [], ◌∷◌, ◌++◌, length, map, None, option_to_list, refl, sym, ◌∙◌, arith}
+use Rattle.std.proofs.lemmas.List.{length_push}
+use Rattle.un_frame.specs.Lanes.{tx_size, rx_size}
+use Rattle.un_facts.proofs.Lists.{all_more}
+use Rattle.un_facts.proofs.Numbers.{one_here}
+use Rattle.un_facts.specs.Lists.{copies}
+use Rattle.un_facts.specs.Numbers.{one_if}
 use Rattle.un_frame.specs.declared.params.Lane.{Lane}
 use Rattle.un_frame.specs.declared.params.Lane.TheVariants.{Outward, Inward}
 use Rattle.un_frame.specs.Parts.{ReadsAs}
-use Rattle.un_req.specs.Request.{Buffer, copies, number_of, one_if}
+use Rattle.un_req.specs.Request.{Buffer, number_of}
 use Rattle.un_endpoint.specs.Bus.{Bus}
 use Rattle.un_endpoint.specs.Ends.{Builder, Transmitter, Receiver, IsAwayTx}
 use Rattle.un_journal.specs.declared.lines.Line.TheVariants.{Made}
-use Rattle.un_journal.specs.Script.{tx_size, rx_size}
 use Rattle.un_journal.specs.Sound.{IsSound, IsNextSpan}
 use Rattle.un_journal.specs.History.{History, made, returned, waiting, flying, mark, halted, posts, recalls, flights, failures, flight_cuts, arrived, current, delivered, left_of, span, made_bytes}
 use Rattle.un_lane.specs.Stands.{ArePlaced, AreQueued, AreAtEnds, AreCounted, AreTexts, IsTx, finished, flight_tx}
-use Rattle.un_lane.proofs.Counting.{all_more, copies_more, length_more, one_here}
+use Rattle.un_lane.proofs.Counting.{copies_more}
 use Rattle.un_lane.proofs.Making.{made_ends, made_queued, made_deferred, made_texts, new_text, delivered_same}
 
 -- what a path stands for, but for what is built
@@ -80,7 +85,7 @@ queued_placed lane t r bus home' builder' g x p n = record {
   rx_some = p.rx_some;
   tx_all =
       let e : length t.home + length (option_to_list t.builder.claim) ≡ length home' + length (option_to_list builder'.claim) + 1 = n.count in
-      let q : length (bus.queue ++ x ∷ []) ≡ length bus.queue + 1 = length_more bus.queue x in
+      let q : length (bus.queue ++ x ∷ []) ≡ length bus.queue + 1 = length_push bus.queue x in
       let a : length t.home + length (option_to_list t.builder.claim) + length t.deferred + length t.done + length bus.queue + length (flight_tx bus.flight) ≡ t.size = p.tx_all in omega arith;
   rx_all = p.rx_all;
   deferred_are = p.deferred_are;
@@ -116,7 +121,7 @@ deferred_placed lane t r bus home' builder' g x p n out = record {
   rx_some = p.rx_some;
   tx_all =
       let e : length t.home + length (option_to_list t.builder.claim) ≡ length home' + length (option_to_list builder'.claim) + 1 = n.count in
-      let q : length (t.deferred ++ x ∷ []) ≡ length t.deferred + 1 = length_more t.deferred x in
+      let q : length (t.deferred ++ x ∷ []) ≡ length t.deferred + 1 = length_push t.deferred x in
       let a : length t.home + length (option_to_list t.builder.claim) + length t.deferred + length t.done + length bus.queue + length (flight_tx bus.flight) ≡ t.size = p.tx_all in omega arith;
   rx_all = p.rx_all;
   deferred_are = all_more (IsTx t.size t.capacity) t.deferred x p.deferred_are (record { known = n.known; sized = n.sized; short = n.short });

@@ -33,10 +33,6 @@ pub those_nothing : (q : ℕ → Bool) → ((j : ℕ) → q j ≡ false) → (n 
 those_nothing q none zero = refl
 those_nothing q none (suc n) = rw (those_nothing q none n, none n) refl
 
-pub and_false : (b : Bool) → (b && false) ≡ false
-and_false true = refl
-and_false false = refl
-
 pub eq_not : (b c : Bool) → b ≡ false → (b || c) ≡ c
 eq_not false c e = refl
 eq_not true c e = absurd (false≢true (sym e))

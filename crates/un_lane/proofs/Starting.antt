@@ -1,48 +1,21 @@
 -- A fresh path stands for the empty history.
 use Rattle.std.proofs.Common.{◌≡◌, ℕ, zero, suc, ◌+◌, ◌<◌, ◌≤◌, Bool, true, false, ◌&&◌, eqb, [], ◌∷◌, ◌++◌, length, None, inl, inr, refl, sym, ap, ◌∙◌, subst, arith}
 use Rattle.std.proofs.lemmas.Bool.{cases_lt}
+use Rattle.std.proofs.lemmas.List.{length_push}
+use Rattle.un_req.proofs.Homes.{upto_none, upto_once}
+use Rattle.un_facts.proofs.Copies.{copies_last}
+use Rattle.un_facts.proofs.Numbers.{one_most, one_here}
+use Rattle.un_facts.specs.Lists.{copies}
+use Rattle.un_facts.specs.Numbers.{one_if}
 use Rattle.un_frame.specs.declared.params.Params.{Params}
 use Rattle.un_frame.specs.declared.params.Lane.{Lane}
 use Rattle.un_frame.specs.declared.params.Lane.TheVariants.{Outward, Inward}
-use Rattle.un_frame.specs.Lanes.{packs}
-use Rattle.un_req.specs.Request.{copies, one_if, upto}
+use Rattle.un_frame.specs.Lanes.{packs, tx_size, rx_size}
+use Rattle.un_req.specs.Request.{upto}
 use Rattle.un_endpoint.specs.Bus.{no_bus}
 use Rattle.un_endpoint.specs.Ends.{Transmitter, Receiver, nothing_built}
-use Rattle.un_journal.specs.Script.{tx_size, rx_size}
 use Rattle.un_lane.specs.Fresh.{AreFresh}
 use Rattle.un_lane.specs.Stands.{Stands, claims_when, pends_when}
-use Rattle.un_lane.proofs.Counting.{copies_last, length_more, one_here}
-
-no_copy : (m n : ℕ) → m ≤ n → copies n (upto m) ≡ 0
-no_copy zero n h = refl
-no_copy (suc m) n h =
-    let e : copies n (upto m ++ m ∷ []) ≡ copies n (upto m) + one_if (eqb n m) = copies_last n (upto m) m in
-    let r : copies n (upto m) ≡ 0 = no_copy m n (omega arith) in
-    let d : one_if (eqb n m) ≡ 0 = ap one_if (apart n m (omega arith)) in omega arith
-  where
-    apart : (a b : ℕ) → b < a → eqb a b ≡ false
-    apart a b l = grind arith
-
-one_most : (b : Bool) → one_if b ≤ 1
-one_most true = omega arith
-one_most false = omega arith
-
-one_copy : (m n : ℕ) → copies n (upto m) ≤ 1
-one_copy zero n = omega arith
-one_copy (suc m) n = go (eqb n m) refl (one_copy m n)
-  where
-    go : (b : Bool) → eqb n m ≡ b → copies n (upto m) ≤ 1 → copies n (upto m ++ m ∷ []) ≤ 1
-    go true e before =
-        let c : copies n (upto m ++ m ∷ []) ≡ copies n (upto m) + one_if (eqb n m) = copies_last n (upto m) m in
-        let z : copies n (upto m) ≡ 0 = no_copy m n (same n m e) in
-        let o : one_if (eqb n m) ≤ 1 = one_most (eqb n m) in omega arith
-      where
-        same : (a b : ℕ) → eqb a b ≡ true → b ≤ a
-        same a b t = grind arith
-    go false e before =
-        let c : copies n (upto m ++ m ∷ []) ≡ copies n (upto m) + one_if (eqb n m) = copies_last n (upto m) m in
-        let z : one_if (eqb n m) ≡ 0 = ap one_if e in
-        omega arith
 
 has_copy : (m n : ℕ) → n < m → 1 ≤ copies n (upto m)
 has_copy zero n h = absurd (omega arith)
@@ -55,7 +28,7 @@ has_copy (suc m) n h =
 
 length_upto : (m : ℕ) → length (upto m) ≡ m
 length_upto zero = refl
-length_upto (suc m) = let e : length (upto m ++ m ∷ []) ≡ length (upto m) + 1 = length_more (upto m) m in let r : length (upto m) ≡ m = length_upto m in omega arith
+length_upto (suc m) = let e : length (upto m ++ m ∷ []) ≡ length (upto m) + 1 = length_push (upto m) m in let r : length (upto m) ≡ m = length_upto m in omega arith
 
 no_claim : (lane : Lane) (b : Bool) → false ≡ claims_when lane (b && false && false)
 no_claim Outward true = refl
@@ -88,8 +61,8 @@ fresh_stands lane params tx_count rx_count tx_capacity rx_capacity t r w = recor
     rx_room_is = refl;
     largest_is = refl;
     wide = w;
-    tx_once = λ n. let o : copies n (upto tx_count) ≤ 1 = one_copy tx_count n in omega arith;
-    rx_once = λ n. let o : copies n (upto rx_count) ≤ 1 = one_copy rx_count n in omega arith;
+    tx_once = λ n. let o : copies n (upto tx_count) ≤ 1 = upto_once tx_count n in omega arith;
+    rx_once = λ n. let o : copies n (upto rx_count) ≤ 1 = upto_once rx_count n in omega arith;
     tx_some = λ n low. let o : 1 ≤ copies n (upto tx_count) = has_copy tx_count n low in omega arith;
     rx_some = λ n low. let o : 1 ≤ copies n (upto rx_count) = has_copy rx_count n low in omega arith;
     tx_all = let l : length (upto tx_count) ≡ tx_count = length_upto tx_count in omega arith;

@@ -3,6 +3,8 @@ use Rattle.std.proofs.Common.{◌≡◌, ℕ, zero, suc, ◌+◌, ◌-◌, ◌<�
 use Rattle.std.proofs.lemmas.Bool.Decides.{nat_tests}
 use Rattle.std.proofs.lemmas.List.{length-map}
 use Rattle.std.specs.List.{list_all}
+use Rattle.un_facts.specs.Lists.{is_empty}
+use Rattle.un_facts.specs.Numbers.{one_if}
 use Rattle.un_frame.specs.declared.params.Lane.{Lane}
 use Rattle.un_frame.specs.declared.params.Lane.TheVariants.{Outward, Inward}
 use Rattle.un_frame.specs.declared.params.Params.{Params}
@@ -12,10 +14,10 @@ use Rattle.un_frame.specs.Cut.{closed_span}
 use Rattle.un_frame.specs.Lanes.{packs}
 use Rattle.un_req.specs.Request.{Buffer}
 use Rattle.un_endpoint.specs.declared.record.FlightRecord.{FlightRecord}
-use Rattle.un_endpoint.specs.Bus.{Bus, one_if, unmarked_count}
+use Rattle.un_endpoint.specs.Bus.{Bus, unmarked_count}
 use Rattle.un_endpoint.specs.Ends.{Opened as Current}
-use Rattle.un_endpoint.specs.EndOutcomes.{with_frame, closing, frame_needs_home, is_busy, can_tick, tick_needs, CanOffer, is_empty as is_empty_end}
-use Rattle.un_journal.specs.History.{History, taken, cover, took_last, waited_after, flying, arrived, ended, returned, halted, mark, posted, is_empty}
+use Rattle.un_endpoint.specs.EndOutcomes.{with_frame, closing, frame_needs_home, is_busy, can_tick, tick_needs, CanOffer}
+use Rattle.un_journal.specs.History.{History, taken, cover, took_last, waited_after, flying, arrived, ended, returned, halted, mark, posted}
 use Rattle.un_journal.specs.Lookup.{tx_home, rx_home, offer_needs_home, tick_needs_home, pending, queued, is_asleep}
 use Rattle.un_journal.specs.LaneSteps.{Writes, Answers, accept, tick_built, take_with, take_first, take_head, tx_done, rx_done, rx_done_at, open_first, deliver_next, deliver_current, deliver_number, post, unlink_first, clear_set}
 use Rattle.un_journal.specs.Step.{is_still, take_flight, unlink, clear_halt}
@@ -35,7 +37,7 @@ still_if : (b : Bool) (a : Answer) (h : History) → is_still (if b then Answers
 still_if true a h = refl
 still_if false a h = refl
 
-none_home : {X : Type 0} (xs : List X) → (length xs == 0) ≡ is_empty_end xs
+none_home : {X : Type 0} (xs : List X) → (length xs == 0) ≡ is_empty xs
 none_home [] = refl
 none_home (x ∷ xs) = let e : length (x ∷ xs) ≡ suc (length xs) = refl in grind (arith, nat_tests, e)
 
@@ -112,7 +114,7 @@ tick_still way g frames w =
     ∙ (ap (λ n. (length way.tx.builder.frames == 0) || (not (nat_lt 0 n) && (tick_needs_home way.tx.params way.lane g && (tx_home way.tx.params way.lane g == 0)))) (pending_is way.tx.params way.lane g ∙ sym w.building.pends)
     ∙ (ap (λ b. (length way.tx.builder.frames == 0) || (not (nat_lt 0 way.tx.builder.pending) && (b && (tx_home way.tx.params way.lane g == 0)))) (tick_needs_is way.tx.params way.lane g way.tx.builder.claim w.building.claimed ∙ ap (λ l. tick_needs l way.tx.builder.claim) (sym w.placed.side))
     ∙ (ap (λ b. (length way.tx.builder.frames == 0) || (not (nat_lt 0 way.tx.builder.pending) && (tick_needs way.tx.lane way.tx.builder.claim && b))) (ap (λ n. n == 0) (home_is way g w) ∙ none_home way.tx.home)
-    ∙ tick_flip (length way.tx.builder.frames) (nat_lt 0 way.tx.builder.pending) (tick_needs way.tx.lane way.tx.builder.claim && is_empty_end way.tx.home)))))
+    ∙ tick_flip (length way.tx.builder.frames) (nat_lt 0 way.tx.builder.pending) (tick_needs way.tx.lane way.tx.builder.claim && is_empty way.tx.home)))))
 
 -- a take, where nothing flies
 

@@ -1,23 +1,28 @@
 -- A path that has taken a flight, or given up a marked transfer, stands for the lane with one line more.
 use Rattle.std.proofs.Common.{◌≡◌, ℕ, suc, ◌+◌, ◌<◌, ◌≤◌, Bool, true, false, not, ◌||◌, ◌==◌, eqb, List, [], ◌∷◌, ◌++◌, length, map, Option, Some, None, option_to_list, inr, refl, sym, ap, ◌∙◌, subst, arith}
 use Rattle.std.specs.List.{AllByRecursion}
+use Rattle.std.proofs.lemmas.List.{length_push}
+use Rattle.un_facts.proofs.Booleans.{and_false}
+use Rattle.un_facts.proofs.Numbers.{one_here}
+use Rattle.un_facts.specs.Lists.{copies}
+use Rattle.un_facts.specs.Numbers.{one_if}
 use Rattle.un_frame.specs.declared.params.Lane.{Lane}
-use Rattle.un_req.specs.Request.{Buffer, copies, number_of, one_if}
+use Rattle.un_req.specs.Request.{Buffer, number_of}
 use Rattle.un_endpoint.specs.declared.record.FlightRecord.{FlightRecord}
 use Rattle.un_endpoint.specs.Bus.{Bus, Trip, record_of}
 use Rattle.un_endpoint.specs.Outcomes.{Departs, Reaps}
 use Rattle.un_endpoint.specs.Ends.{Transmitter, Receiver, IsAwayTx, tx_copies, rx_copies, tx_count, rx_count}
 use Rattle.un_journal.specs.declared.lines.Line.TheVariants.{Flying, Cut}
-use Rattle.un_journal.specs.History.{History, made, flies, waits, waiting, flying, ended, landed, failed, was_cut, mark, halted, posts, recalls, flights, first, span, made_bytes}
+use Rattle.un_journal.specs.History.{History, made, flies, waits, waiting, flying, ended, landed, failed, was_cut, mark, halted, posts, recalls, flights, first, span, made_bytes, ends}
 use Rattle.un_journal.specs.Sound.{IsNext}
 use Rattle.un_journal.proofs.Lists.{those_rest}
 use Rattle.un_journal.proofs.Legal.{next_from}
 use Rattle.un_lane.specs.Way.{Way}
 use Rattle.un_lane.specs.Stands.{Stands, ArePlaced, AreQueued, AreMarked, IsTx, IsRx, IsText, serial_of, flight_serial, flight_tx, flight_rx}
-use Rattle.un_lane.proofs.Counting.{copies_more, length_more, map_last, one_here}
-use Rattle.un_journal.proofs.Order.{ends, in_order, next_is}
+use Rattle.un_lane.proofs.Counting.{copies_more, map_last}
+use Rattle.un_journal.proofs.Order.{in_order, next_is}
 use Rattle.un_lane.proofs.Finishing.{finish_plus}
-use Rattle.un_lane.proofs.Serials.{those_single, those_nothing, and_false, apart, same_number}
+use Rattle.un_lane.proofs.Serials.{those_single, those_nothing, apart, same_number}
 
 -- where something is queued nothing is deferred
 pub none_deferred : (deferred queue : List Buffer) (flight : Option FlightRecord) (x : Buffer) (xs : List Buffer) → (0 < length deferred → (queue ≡ []) × (flight ≡ None)) → queue ≡ x ∷ xs → deferred ≡ []
@@ -190,7 +195,7 @@ reap_placed lane t r bus x queue' marks' p q =
       rx_some = p.rx_some;
       tx_all =
           let e : length bus.queue ≡ suc (length queue') = ap length q in
-          let d : length (t.done ++ x ∷ []) ≡ length t.done + 1 = length_more t.done x in
+          let d : length (t.done ++ x ∷ []) ≡ length t.done + 1 = length_push t.done x in
           let w : length t.home + length (option_to_list t.builder.claim) + length t.deferred + length t.done + length bus.queue + length (flight_tx bus.flight) ≡ t.size = p.tx_all in omega arith;
       rx_all = p.rx_all;
       deferred_are = p.deferred_are;

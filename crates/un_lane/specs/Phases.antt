@@ -1,6 +1,7 @@
 -- What a path keeps for the phase of its link, and what its calls leave as it was.
 use Rattle.std.specs.Prelude.{◌≡◌, ℕ, ◌-◌, Bool, true, false, List, [], ◌∷◌, ◌++◌, drop, Option, None}
 use Rattle.un_frame.specs.declared.params.Lane.{Lane}
+use Rattle.un_frame.specs.Lanes.{outward_only}
 use Rattle.un_frame.specs.declared.params.Lane.TheVariants.{Outward, Inward}
 use Rattle.un_req.specs.Request.{Buffer}
 use Rattle.un_endpoint.specs.declared.record.FlightRecord.{FlightRecord}
@@ -13,8 +14,7 @@ use Rattle.un_lane.specs.Way.{Way}
 
 -- whether made transfers are deferred: those of a sleeping link's outward lane
 abbrev pub defers : Lane → Bool → Bool
-defers Outward asleep = asleep
-defers Inward asleep = false
+defers lane asleep = outward_only lane asleep
 
 -- while transfers are deferred nothing is queued and nothing flies; at any other time nothing is deferred
 pub record AreApart (is_deferring : Bool) (deferred queue : List Buffer) (flight : Option FlightRecord) : Type 0 where

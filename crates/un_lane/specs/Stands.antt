@@ -2,17 +2,17 @@
 -- part as it is; and over the parts of a path, so a call that changes none of these keeps it too. Sums stand where look-ups subtract.
 use Rattle.std.specs.Prelude.{◌≡◌, ℕ, ◌+◌, ◌-◌, ◌<◌, ◌≤◌, Bool, true, false, ◌&&◌, nat_lt, nat_le, min, List, [], ◌∷◌, ◌++◌, map, length, Option, Some, None, is_some, option_to_list, if◌then◌else◌}
 use Rattle.std.specs.List.{AllByRecursion}
+use Rattle.un_facts.specs.Lists.{copies}
 use Rattle.un_frame.specs.declared.params.Params.{Params}
 use Rattle.un_frame.specs.declared.params.Class.{Class}
 use Rattle.un_frame.specs.declared.params.Lane.{Lane}
 use Rattle.un_frame.specs.declared.params.Lane.TheVariants.{Outward, Inward}
-use Rattle.un_frame.specs.Lanes.{packs}
+use Rattle.un_frame.specs.Lanes.{outward_only, packs, tx_size, rx_size}
 use Rattle.un_frame.specs.Parts.{ReadsAs}
-use Rattle.un_req.specs.Request.{Buffer, copies, number_of}
+use Rattle.un_req.specs.Request.{Buffer, number_of}
 use Rattle.un_endpoint.specs.declared.record.FlightRecord.{FlightRecord}
 use Rattle.un_endpoint.specs.Bus.{Bus}
 use Rattle.un_endpoint.specs.Ends.{Builder, Transmitter, Receiver, Opened, tx_copies, rx_copies, tx_count, rx_count}
-use Rattle.un_journal.specs.Script.{tx_size, rx_size}
 use Rattle.un_journal.specs.History.{History, taken, made, cover, took_last, waited_after, waiting, flying, arrived, current, delivered, ended, those, posts, recalls, flights, failures, flight_cuts, returned, halted, mark, left_of, span, made_bytes, row_from}
 use Rattle.un_journal.specs.Sound.{IsSound}
 use Rattle.un_lane.specs.Way.{Way}
@@ -85,8 +85,7 @@ pub record ArePlaced (lane : Lane) (t : Transmitter) (r : Receiver) (bus : Bus) 
 
 -- whether an open block has a claimed request, and the pending count
 abbrev pub claims_when : Lane → Bool → Bool
-claims_when Outward is_open = is_open
-claims_when Inward is_open = false
+claims_when lane is_open = outward_only lane is_open
 
 abbrev pub pends_when : Lane → Bool → ℕ → ℕ
 pends_when Outward is_open waited = if is_open then 3 - waited else 0

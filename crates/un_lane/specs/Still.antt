@@ -1,11 +1,12 @@
 -- Whether a lane is still, and what a frame that is offered to it would do.
 use Rattle.std.specs.Prelude.{ℕ, Bool, true, false, ◌&&◌, ◌||◌, ◌==◌, List, [], ◌∷◌, length, is_some, if◌then◌else◌, not}
 use Rattle.std.specs.List.{list_all}
+use Rattle.un_facts.specs.Lists.{is_empty}
 use Rattle.un_frame.specs.declared.params.Lane.{Lane}
 use Rattle.un_frame.specs.declared.params.Params.{Params}
 use Rattle.un_frame.specs.declared.kinds.Phase.{Phase}
 use Rattle.un_journal.specs.declared.actions.Answer.{Answer}
-use Rattle.un_journal.specs.History.{History, flying, is_empty}
+use Rattle.un_journal.specs.History.{History, flying}
 use Rattle.un_journal.specs.Lookup.{is_asleep, works}
 use Rattle.un_journal.specs.LaneSteps.{Outcome, Answers, tick_built, tx_done, rx_done, deliver_next, post}
 use Rattle.un_journal.specs.Step.{is_still, take_flight, unlink, clear_halt}

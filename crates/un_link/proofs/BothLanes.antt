@@ -9,7 +9,7 @@ use Rattle.un_journal.specs.LaneSteps.{bare}
 use Rattle.un_journal.specs.Step.{marked_each, cut_each, recalled_each, dropped_built}
 use Rattle.un_journal.proofs.Onto.{onto, AllOf, filter_of, filter_append, past_onto}
 use Rattle.un_journal.proofs.LaneFacts.{past_own, past_other}
-use Rattle.un_journal.proofs.Rules.{onto_marked}
+use Rattle.un_journal.proofs.Rules.{onto_marked, cut_of, marked_of, recalled_of, dropped_of}
 use Rattle.un_lane.specs.Way.{Way, HasRoom, Adds}
 use Rattle.un_lane.specs.Controls.{Stays, unmarked_in, unmarked_lines, deferred_lines, posted_lines, dropped_lines}
 use Rattle.un_lane.specs.Stands.{Stands}
@@ -23,25 +23,6 @@ of_append : (lane : Lane) (xs ys : History) → AllOf lane xs → AllOf lane ys 
 of_append lane [] ys a b = b
 of_append lane (x ∷ xs) ys a b = (a.0, of_append lane xs ys a.1 b)
 
-marked_of : (lane : Lane) (c : ℕ) (ks : List ℕ) → AllOf lane (marked_each lane c ks)
-marked_of lane c [] = tt
-marked_of lane c (k ∷ ks) = (λ l. refl, marked_of lane c ks)
-
-cut_of : (lane : Lane) (c : ℕ) (ks : List ℕ) → AllOf lane (cut_each lane c ks)
-cut_of lane c [] = tt
-cut_of lane c (k ∷ ks) = (λ l. refl, cut_of lane c ks)
-
-recalled_of : (lane : Lane) (n : ℕ) → AllOf lane (recalled_each lane n)
-recalled_of lane zero = tt
-recalled_of lane (suc n) = (λ l. refl, recalled_of lane n)
-
-built_of : (lane : Lane) (c : ℕ) (g : History) → AllOf lane (dropped_built lane c g)
-built_of lane c g = go (built g == 0)
-  where
-    go : (b : Bool) → AllOf lane (if b then [] else (bare (Line.Dropped lane (cover g) (taken g) c) ∷ []))
-    go true = tt
-    go false = (λ l. refl, tt)
-
 pub unmarked_own : (c : ℕ) (way : Way) (g : History) → AllOf way.lane (unmarked_lines c way)
 unmarked_own c way g = marked_of way.lane c _
 
@@ -49,7 +30,7 @@ pub posted_own : (way : Way) (g : History) → AllOf way.lane (posted_lines way)
 posted_own way g = recalled_of way.lane _
 
 pub dropped_own : (c : ℕ) (way : Way) (g : History) → AllOf way.lane (dropped_lines c way g)
-dropped_own c way g = of_append way.lane (deferred_lines c way) (dropped_built way.lane c g) (cut_of way.lane c _) (built_of way.lane c g)
+dropped_own c way g = of_append way.lane (deferred_lines c way) (dropped_built way.lane c g) (cut_of way.lane c _) (dropped_of way.lane c g)
 
 -- ONE PATH MOVES
 

@@ -47,10 +47,6 @@ not_due_is script h due force e p d q =
     ∙ (ap (λ b. if b then Answers (Answer.Down (phase_of script h)) else (if is_due script h due then control_now script h due false else control_forced script h due (force && quiet script h))) p
     ∙ (ap (λ b. if b then control_now script h due false else control_forced script h due (force && quiet script h)) d ∙ ap (control_forced script h due) q))
 
-pub not_quiet : (a b : Bool) → b ≡ false → (a && b) ≡ false
-not_quiet true b e = e
-not_quiet false b e = refl
-
 pub not_forced : (a b : Bool) → a ≡ false → (a && b) ≡ false
 not_forced a b e = ap (λ i. i && b) e
 

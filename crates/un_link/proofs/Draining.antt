@@ -17,7 +17,7 @@ use Rattle.un_journal.proofs.Status.{status_of, is_aloft}
 use Rattle.un_journal.proofs.Legal.{fresh}
 use Rattle.un_journal.proofs.Lists.{those_none}
 use Rattle.un_journal.proofs.Bound.{legal_bound}
-use Rattle.un_journal.proofs.Drained.{drain_done, drain_extends, run_extends}
+use Rattle.un_journal.proofs.Drained.{drain_done, drain_extends, run_extends, no_longer, step_idle}
 use Rattle.un_journal.proofs.Finished.{done_finished}
 use Rattle.un_journal.proofs.Closed.{cut_off, given_prefix}
 use Rattle.un_journal.proofs.Ranges.{have_pools}
@@ -52,19 +52,11 @@ run_more script h now after actions n x at e a =
 longer_false : (h h' : History) → length h < length h' → same_length h h' ≡ false
 longer_false h h' low = grind (arith, nat_tests)
 
-no_longer_true : (h h' : History) → length h' ≤ length h → same_length h h' ≡ true
-no_longer_true h h' low = grind (arith, nat_tests)
-
--- what begins with h and isn't longer is h
-nothing_more : (h more : History) → length (h ++ more) ≤ length h → more ≡ []
-nothing_more h [] low = refl
-nothing_more h (e ∷ more) low = let l : length (h ++ e ∷ more) ≡ length h + length (e ∷ more) = length-append h (e ∷ more) in absurd (omega arith)
-
 round_same : (script : Script) (h : History) → length (run script h round) ≤ length h → run script h round ≡ h
 round_same script h low =
     let w = run_extends script h round in
     let short : length (h ++ w.more) ≤ length h = subst (λ i. length i ≤ length h) w.is_more low in
-    w.is_more ∙ (ap (λ i. h ++ i) (nothing_more h w.more short) ∙ append-nil h)
+    w.is_more ∙ (ap (λ i. h ++ i) (step_idle h w.more short) ∙ append-nil h)
 
 -- a round that wrote lines
 pub round_drains : (old new : Link) → Holds old → Holds new → new.script ≡ old.script → flights_of new ≡ flights_of old → new.log.history ≡ run old.script old.log.history round → length old.log.history < length new.log.history → DrainsOn old new true
@@ -91,7 +83,7 @@ control_drains old mid new b k k' s s' f f' h low h' e = record { script_is = s'
     after = h' ∙ (ap (λ i. i ++ step_of mid.script i (Action.Control true)) still ∙ ap (λ i. old.log.history ++ step_of i old.log.history (Action.Control true)) s)
 
     none : same_length old.log.history (run old.script old.log.history round) ≡ true
-    none = no_longer_true old.log.history (run old.script old.log.history round) short
+    none = no_longer old.log.history (run old.script old.log.history round) short
 
     lt_yes : (n m : ℕ) → nat_lt n m ≡ true → n < m
     lt_yes n m e = grind (arith, nat_tests)
@@ -108,8 +100,8 @@ control_drains old mid new b k k' s s' f f' h low h' e = record { script_is = s'
         )
     go false e =
         let less = subst (λ i. length i ≤ length old.log.history) after (lt_no (length old.log.history) (length new.log.history) e) in (
-          after ∙ (ap (λ i. old.log.history ++ i) (nothing_more old.log.history (step_of old.script old.log.history (Action.Control true)) less) ∙ append-nil old.log.history),
-          drain_at_end old.script old.log.history none (no_longer_true old.log.history (old.log.history ++ step_of old.script old.log.history (Action.Control true)) less),
+          after ∙ (ap (λ i. old.log.history ++ i) (step_idle old.log.history (step_of old.script old.log.history (Action.Control true)) less) ∙ append-nil old.log.history),
+          drain_at_end old.script old.log.history none (no_longer old.log.history (old.log.history ++ step_of old.script old.log.history (Action.Control true)) less),
         )
 
 -- THE LOOP

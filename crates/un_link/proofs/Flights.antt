@@ -1,5 +1,8 @@
 -- A link after a take and after a landing.
 use Rattle.std.proofs.Common.{◌≡◌, ℕ, ◌+◌, ◌<◌, Bool, true, false, ◌&&◌, List, [], ◌∷◌, ◌++◌, Option, Some, None, refl, sym, ap, ◌∙◌, subst, arith, append_assoc}
+use Rattle.un_facts.proofs.Booleans.{and_first}
+use Rattle.un_facts.specs.Lists.{is_empty}
+use Rattle.un_facts.specs.Numbers.{one_if}
 use Rattle.un_frame.specs.declared.params.Lane.{Lane}
 use Rattle.un_frame.specs.declared.params.Lane.TheVariants.{Outward, Inward}
 use Rattle.un_frame.specs.Lanes.{same_lane}
@@ -8,10 +11,9 @@ use Rattle.un_journal.specs.declared.machine.Flight.{Flight}
 use Rattle.un_journal.specs.declared.actions.Answer.{Answer}
 use Rattle.un_journal.specs.declared.got.Got.{Got}
 use Rattle.un_journal.specs.declared.got.Got.TheVariants.{Part, Cut, Not}
-use Rattle.un_journal.specs.Census.{one_if}
 use Rattle.un_journal.specs.Flights.{times, same_flight, Gains, Loses, Takes}
 use Rattle.un_journal.specs.Script.{Script}
-use Rattle.un_journal.specs.History.{History, past, flying, is_empty}
+use Rattle.un_journal.specs.History.{History, past, flying}
 use Rattle.un_journal.specs.Log.{Log}
 use Rattle.un_journal.specs.declared.actions.Action.{Action}
 use Rattle.un_journal.specs.declared.lines.Line.TheVariants.{Flying, Cut as CutLine}
@@ -291,9 +293,5 @@ quiet_none link k q =
     ap (λ fs. fs ++ flights_in Inward link) (no_flights Outward (past Outward link.log.history) link.out.bus.flight (flying (past Outward link.log.history)) k.out_keeps.stands.queues.fly t.0)
     ∙ no_flights Inward (past Inward link.log.history) link.inward.bus.flight (flying (past Inward link.log.history)) k.in_keeps.stands.queues.fly t.1
 
-quiet_of : (a b : Bool) → (a && b) ≡ true → a ≡ true
-quiet_of true b e = refl
-quiet_of false b e = absurd (cc)
-
 pub finished_none : (link : Link) → Holds link → is_finished link.script link.log.history ≡ true → flights_of link ≡ []
-finished_none link k f = quiet_none link k (quiet_of _ _ f)
+finished_none link k f = quiet_none link k (and_first _ _ f)

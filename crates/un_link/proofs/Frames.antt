@@ -2,17 +2,19 @@
 use Rattle.std.proofs.Common.{◌≡◌, ℕ, ◌+◌, ◌-◌, ◌<◌, ◌≤◌, Bool, true, false, List, [], ◌∷◌, ◌++◌, drop, Some, None, refl, sym, ap, ◌∙◌, subst, arith, append-nil}
 use Rattle.std.proofs.lemmas.Bool.{false≢true}
 use Rattle.std.proofs.lemmas.List.{drop-drop}
+use Rattle.std.proofs.lemmas.Option.{same_Some, none-some}
+use Rattle.un_frame.proofs.LaneLemmas.{same_lane-refl}
 use Rattle.un_frame.specs.declared.params.Lane.{Lane}
 use Rattle.un_journal.specs.Script.{Script, Frame}
 use Rattle.un_journal.specs.History.{Entry, History, past, concerns, cover, consumed}
 use Rattle.un_journal.specs.declared.lines.Line.TheVariants.{Made, Dropped}
 use Rattle.un_journal.specs.Sound.{IsSound}
-use Rattle.un_journal.proofs.Onto.{onto}
+use Rattle.un_journal.proofs.Onto.{onto, sound_below}
 use Rattle.un_journal.specs.Lookup.{built_frames, datagrams}
 use Rattle.un_journal.specs.LaneSteps.{Outcome, Writes, Answers, lines_in}
 use Rattle.un_journal.specs.Step.{Work, work}
 use Rattle.un_journal.specs.Fits.{Works, Fits, takes, refuses, waits_once, closes, begins_flight, cuts_queued, lands, fails, cuts_flight, comes_home, opens, gives, posts_one, marks, recalls_one, clears, settles}
-use Rattle.un_journal.proofs.Steps.{own_past, same_lane_same}
+use Rattle.un_journal.proofs.Steps.{own_past}
 use Rattle.un_journal.proofs.LaneFacts.{lane_of}
 use Rattle.un_journal.proofs.Complete.{outcome_fits}
 
@@ -34,33 +36,27 @@ pub record IsSame (script : Script) (w : Work) (lane : Lane) (g g' : History) : 
   pub feeds : (s : ℕ) → consumed g' s ≡ consumed g s
   pub covers : is_plain w ≡ true → cover g' ≡ cover g
 
-some_same : (a b : Lane) → Some a ≡ Some b → a ≡ b
-some_same a b e = cc
-
-no_some : (a : Lane) → None ≡ Some a → ⊥
-no_some a e = cc
-
 at : (script : Script) (w : Work) (a lane : Lane) (h : History) (e : Entry) → Some a ≡ Some lane → concerns a e ≡ true → IsSame script w a (past a h) (e ∷ past a h) → IsSame script w lane (past lane h) (past lane (h ++ e ∷ []))
-at script w a lane h e q c s = subst (λ l. IsSame script w l (past l h) (past l (h ++ e ∷ []))) (some_same a lane q) (subst (IsSame script w a (past a h)) (sym (own_past h e a c)) s)
+at script w a lane h e q c s = subst (λ l. IsSame script w l (past l h) (past l (h ++ e ∷ []))) (same_Some a lane q) (subst (IsSame script w a (past a h)) (sym (own_past h e a c)) s)
 
 calm_fits : (script : Script) (h lines : History) (w : Work) (lane : Lane) → Fits script h (Works w) lines → lane_of w ≡ Some lane → is_calm w ≡ true → IsSame script w lane (past lane h) (past lane (h ++ lines))
 calm_fits script h lines w lane (takes l s frame wo e v home) q p = absurd (false≢true p)
 calm_fits script h lines w lane (refuses l s frame why wo e v n) q p = absurd (false≢true p)
-calm_fits script h lines w lane (waits_once l x) q p = at script w l lane h _ q (same_lane_same l) (record { frames = refl; feeds = λ s. refl; covers = λ c. refl })
-calm_fits script h lines w lane (closes l b x n) q p = at script w l lane h _ q (same_lane_same l) (record { frames = refl; feeds = λ s. refl; covers = λ c. absurd (false≢true c) })
-calm_fits script h lines w lane (begins_flight l k a idle e m ha x) q p = at script w l lane h _ q (same_lane_same l) (record { frames = refl; feeds = λ s. refl; covers = λ c. refl })
-calm_fits script h lines w lane (cuts_queued l k c idle e m) q p = at script w l lane h _ q (same_lane_same l) (record { frames = refl; feeds = λ s. refl; covers = λ c. refl })
-calm_fits script h lines w lane (lands l k f m x) q p = at script w l lane h _ q (same_lane_same l) (record { frames = refl; feeds = λ s. refl; covers = λ c. refl })
-calm_fits script h lines w lane (fails l k kind f m x) q p = at script w l lane h _ q (same_lane_same l) (record { frames = refl; feeds = λ s. refl; covers = λ c. refl })
-calm_fits script h lines w lane (cuts_flight l k c f m) q p = at script w l lane h _ q (same_lane_same l) (record { frames = refl; feeds = λ s. refl; covers = λ c. refl })
-calm_fits script h lines w lane (comes_home l e) q p = at script w l lane h _ q (same_lane_same l) (record { frames = refl; feeds = λ s. refl; covers = λ c. refl })
-calm_fits script h lines w lane (opens l k idle e) q p = at script w l lane h _ q (same_lane_same l) (record { frames = refl; feeds = λ s. refl; covers = λ c. refl })
-calm_fits script h lines w lane (gives l k n c e) q p = at script w l lane h _ q (same_lane_same l) (record { frames = refl; feeds = λ s. refl; covers = λ c. refl })
-calm_fits script h lines w lane (posts_one l a r) q p = at script w l lane h _ q (same_lane_same l) (record { frames = refl; feeds = λ s. refl; covers = λ c. refl })
-calm_fits script h lines w lane (marks l k s e) q p = at script w l lane h _ q (same_lane_same l) (record { frames = refl; feeds = λ s. refl; covers = λ c. refl })
-calm_fits script h lines w lane (recalls_one l s e x) q p = at script w l lane h _ q (same_lane_same l) (record { frames = refl; feeds = λ s. refl; covers = λ c. refl })
-calm_fits script h lines w lane (clears l a e) q p = at script w l lane h _ q (same_lane_same l) (record { frames = refl; feeds = λ s. refl; covers = λ c. refl })
-calm_fits script h lines w lane (settles s e) q p = absurd (no_some lane q)
+calm_fits script h lines w lane (waits_once l x) q p = at script w l lane h _ q (same_lane-refl l) (record { frames = refl; feeds = λ s. refl; covers = λ c. refl })
+calm_fits script h lines w lane (closes l b x n) q p = at script w l lane h _ q (same_lane-refl l) (record { frames = refl; feeds = λ s. refl; covers = λ c. absurd (false≢true c) })
+calm_fits script h lines w lane (begins_flight l k a idle e m ha x) q p = at script w l lane h _ q (same_lane-refl l) (record { frames = refl; feeds = λ s. refl; covers = λ c. refl })
+calm_fits script h lines w lane (cuts_queued l k c idle e m) q p = at script w l lane h _ q (same_lane-refl l) (record { frames = refl; feeds = λ s. refl; covers = λ c. refl })
+calm_fits script h lines w lane (lands l k f m x) q p = at script w l lane h _ q (same_lane-refl l) (record { frames = refl; feeds = λ s. refl; covers = λ c. refl })
+calm_fits script h lines w lane (fails l k kind f m x) q p = at script w l lane h _ q (same_lane-refl l) (record { frames = refl; feeds = λ s. refl; covers = λ c. refl })
+calm_fits script h lines w lane (cuts_flight l k c f m) q p = at script w l lane h _ q (same_lane-refl l) (record { frames = refl; feeds = λ s. refl; covers = λ c. refl })
+calm_fits script h lines w lane (comes_home l e) q p = at script w l lane h _ q (same_lane-refl l) (record { frames = refl; feeds = λ s. refl; covers = λ c. refl })
+calm_fits script h lines w lane (opens l k idle e) q p = at script w l lane h _ q (same_lane-refl l) (record { frames = refl; feeds = λ s. refl; covers = λ c. refl })
+calm_fits script h lines w lane (gives l k n c e) q p = at script w l lane h _ q (same_lane-refl l) (record { frames = refl; feeds = λ s. refl; covers = λ c. refl })
+calm_fits script h lines w lane (posts_one l a r) q p = at script w l lane h _ q (same_lane-refl l) (record { frames = refl; feeds = λ s. refl; covers = λ c. refl })
+calm_fits script h lines w lane (marks l k s e) q p = at script w l lane h _ q (same_lane-refl l) (record { frames = refl; feeds = λ s. refl; covers = λ c. refl })
+calm_fits script h lines w lane (recalls_one l s e x) q p = at script w l lane h _ q (same_lane-refl l) (record { frames = refl; feeds = λ s. refl; covers = λ c. refl })
+calm_fits script h lines w lane (clears l a e) q p = at script w l lane h _ q (same_lane-refl l) (record { frames = refl; feeds = λ s. refl; covers = λ c. refl })
+calm_fits script h lines w lane (settles s e) q p = absurd (none-some lane q)
 
 pub calm_same : (script : Script) (h : History) (w : Work) (lane : Lane) → lane_of w ≡ Some lane → is_calm w ≡ true → IsSame script w lane (past lane h) (past lane (h ++ lines_in (work script h w)))
 calm_same script h w lane q p = go (work script h w) refl
@@ -74,10 +70,6 @@ pub plain_frames : (script : Script) (w : Work) (lane : Lane) (g g' : History) �
 plain_frames script w lane g g' p s = ap (λ n. drop n (datagrams script lane g')) (s.covers p) ∙ ap (drop (cover g)) s.frames
 
 -- COVER
-
-pub sound_below : (lines g : History) → IsSound (onto lines g) → IsSound g
-sound_below [] g s = s
-sound_below (e ∷ lines) g s = (sound_below lines (e ∷ g) s).1
 
 covers_more : (e : Entry) (g : History) → IsSound (e ∷ g) → cover g ≤ cover (e ∷ g)
 covers_more (Made l k a b, bytes) g s = let e : a ≡ cover g = s.0.1.begins in let low : a < b = s.0.1.is_some in omega arith

@@ -1,6 +1,7 @@
 -- A new link.
 use Rattle.std.proofs.Common.{◌≡◌, ℕ, false, [], refl, sym, ap, ◌∙◌, arith}
 use Rattle.std.proofs.lemmas.Bool.{false≢true}
+use Rattle.un_lane.proofs.LinkSteps.{defers_awake}
 use Rattle.un_frame.specs.declared.params.Lane.{Lane}
 use Rattle.un_frame.specs.declared.params.Lane.TheVariants.{Outward, Inward}
 use Rattle.un_frame.specs.declared.kinds.Phase.TheVariants.{Up}
@@ -21,17 +22,13 @@ use Rattle.un_link.specs.Keeps.{Keeps}
 use Rattle.un_link.specs.Link.{Holds}
 use Rattle.un_link.proofs.Rooms.{few_lines}
 
-awake : (lane : Lane) → defers lane false ≡ false
-awake Outward = refl
-awake Inward = refl
-
 -- a fresh path keeps what an empty history says
 made_keeps : (script : Script) (way : Way) (lane : Lane) (t : Transmitter) (r : Receiver) (n m : ℕ) → AreFresh lane t r n m → way.tx ≡ t → t.params ≡ script.params → Stands way [] → Keeps script Up way []
 made_keeps script way lane t r n m f e p s = record {
   params_are = ap (λ x. x.params) e ∙ p;
   stands = s;
   agrees = record {
-    none_queued = λ d. absurd (false≢true (sym (awake way.lane) ∙ d));
+    none_queued = λ d. absurd (false≢true (sym (defers_awake way.lane) ∙ d));
     none_deferred = λ d. ap (λ x. x.deferred) e ∙ ap (λ x. x.deferred) f.tx_is;
   };
   frames_are = ap (λ x. x.builder.frames) e ∙ ap (λ x. x.builder.frames) f.tx_is;

@@ -3,6 +3,7 @@ use Rattle.std.proofs.Common.{◌≡◌, ◌≢◌, ℕ, zero, suc, ◌+◌, ◌
 use Rattle.std.proofs.lemmas.List.{drop-append-le}
 use Rattle.std.proofs.lemmas.Bool.{ne_eqb}
 use Rattle.std.proofs.lemmas.Bool.Decides.{nat_tests}
+use Rattle.un_frame.proofs.LaneLemmas.{same_lane-refl}
 use Rattle.un_endpoint.specs.Ends.{Transmitter}
 use Rattle.un_frame.specs.declared.params.Lane.{Lane}
 use Rattle.un_frame.specs.declared.params.Lane.TheVariants.{Outward, Inward}
@@ -28,7 +29,7 @@ use Rattle.un_journal.proofs.Formed.{count_datagrams}
 use Rattle.un_journal.proofs.LinkFacts.{past_short}
 use Rattle.un_journal.proofs.LaneFacts.{work_own, past_own}
 use Rattle.un_journal.proofs.Onto.{onto}
-use Rattle.un_journal.proofs.Steps.{own_past, same_lane_same}
+use Rattle.un_journal.proofs.Steps.{own_past}
 use Rattle.un_lane.specs.Way.{Way, HasRoom, Adds}
 use Rattle.un_lane.specs.Answered.{UnlessDid, IsUnchanged}
 use Rattle.un_lane.specs.Stands.{Stands}
@@ -279,7 +280,7 @@ pub refuse_does : (script : Script) (phase : Phase) (way : Way) (log log' : Log)
     → Does script phase (Work.Offer lane sender) way way log log' Answer.Did
 refuse_does script phase way log log' lane sender frame why at k p w head v n a =
     let o = refuse_is script log.history lane sender frame why (ap works (sym p) ∙ w) head v n in
-    let longer : past way.lane log'.history ≡ bare (Refused lane sender why) ∷ past lane log.history = ap (λ l. past l log'.history) at ∙ (ap (past lane) a.history_is ∙ own_past log.history (bare (Refused lane sender why)) lane (same_lane_same lane)) in
+    let longer : past way.lane log'.history ≡ bare (Refused lane sender why) ∷ past lane log.history = ap (λ l. past l log'.history) at ∙ (ap (past lane) a.history_is ∙ own_past log.history (bare (Refused lane sender why)) lane (same_lane-refl lane)) in
     record {
       adds = subst (λ o. Adds log log' (lines_in o)) (sym o) a;
       answers = ap answer_in (sym o);
@@ -297,7 +298,7 @@ refuse_does script phase way log log' lane sender frame why at k p w head v n a 
 pub refuse_reads : (log log' : Log) (c : Cursors) (lane : Lane) (sender : ℕ) (why : Verdict) → log'.history ≡ log.history ++ bare (Refused lane sender why) ∷ [] → AreRead c (past lane log.history) → AreRead (advanced sender c) (past lane log'.history)
 refuse_reads log log' c lane sender why e r =
     advanced_read c (past lane log.history) (past lane log'.history) sender r
-    (λ j. ap (λ g. consumed g j) (ap (past lane) e ∙ own_past log.history (bare (Refused lane sender why)) lane (same_lane_same lane)))
+    (λ j. ap (λ g. consumed g j) (ap (past lane) e ∙ own_past log.history (bare (Refused lane sender why)) lane (same_lane-refl lane)))
 
 pub pushed : (log log' : Log) (line : Line) → log'.history ≡ log.history ++ bare line ∷ [] → log'.spare_lines + 1 ≡ log.spare_lines → log'.spare_bytes + 0 ≡ log.spare_bytes → Adds log log' (bare line ∷ [])
 pushed log log' line e l b = record { history_is = e; lines_left = l; bytes_left = omega (arith, b) }

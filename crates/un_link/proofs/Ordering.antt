@@ -1,6 +1,7 @@
 -- What the orders of controls do to two paths.
 use Rattle.std.proofs.Common.{◌≡◌, ℕ, zero, suc, ◌+◌, ◌≤◌, Bool, true, false, List, [], ◌∷◌, ◌++◌, length, drop, map, Option, Some, None, refl, sym, ap, ◌∙◌, subst, arith, append-nil, append_assoc, drop_of_length-le}
 use Rattle.std.proofs.lemmas.Bool.{false≢true}
+use Rattle.un_facts.proofs.Numbers.{middle_zero}
 use Rattle.un_frame.specs.declared.params.Lane.{Lane}
 use Rattle.un_frame.specs.declared.params.Lane.TheVariants.{Outward, Inward}
 use Rattle.un_frame.specs.declared.kinds.Phase.{Phase}
@@ -84,9 +85,6 @@ asleep_agrees asleep way a q f = record { none_queued = λ e. (q, f); none_defer
 first_none : (a b c : ℕ) → a + b + c ≡ 0 → a ≡ 0
 first_none a b c e = omega arith
 
-second_none : (a b c : ℕ) → a + b + c ≡ 0 → b ≡ 0
-second_none a b c e = omega arith
-
 pub suspend_room : (script : Script) (phase : Phase) (out inward : Way) (log : Log) → KeepBoth script phase out inward log → recalled_each Inward (posted (past Inward log.history)) ≡ posted_lines inward
 suspend_room script phase out inward log k = ap (λ l. recalled_each l (posted (past Inward log.history))) (sym k.in_lane) ∙ recalls_are inward (past Inward log.history) k.in_keeps.stands
 
@@ -99,7 +97,7 @@ suspend_obeys script phase cause out inward inward' log log' k free a s l f =
     let q = no_serials out.bus.queue (sym (ap length (subst (λ i. queued phase i (past Outward log.history) ≡ map serial_of out.bus.queue) k.out_lane (queued_is phase out (past Outward log.history) k.out_keeps.stands k.out_keeps.agrees)))
     ∙ first_none (length (queued phase Outward (past Outward log.history))) (length (flying (past Outward log.history))) (length (flying (past Inward log.history))) free) in
     let n = no_flight out.bus.flight (sym (ap length k.out_keeps.stands.queues.fly)
-    ∙ second_none (length (queued phase Outward (past Outward log.history))) (length (flying (past Outward log.history))) (length (flying (past Inward log.history))) free) in
+    ∙ middle_zero (length (queued phase Outward (past Outward log.history))) (length (flying (past Outward log.history))) (length (flying (past Inward log.history))) free) in
     record {
       adds = subst (Adds log log') (sym (suspend_room script phase out inward log k)) a;
       keep = record {

@@ -1,6 +1,7 @@
 -- Steps that write nothing.
 use Rattle.std.proofs.Common.{◌≡◌, ℕ, ◌+◌, ◌<◌, Bool, true, false, nat_lt, [], ◌∷◌, ◌++◌, None, reverse, refl, sym, ap, subst, ◌∙◌, arith, if◌then◌else◌, append-nil}
 use Rattle.std.proofs.lemmas.Bool.Decides.{nat_tests}
+use Rattle.un_lane.proofs.Adding.{adds_none}
 use Rattle.un_frame.specs.declared.params.Lane.{Lane}
 use Rattle.un_frame.specs.declared.params.Lane.TheVariants.{Outward, Inward}
 use Rattle.un_frame.specs.declared.kinds.Phase.{Phase}
@@ -22,14 +23,11 @@ use Rattle.un_link.specs.Requests.{KeepsRequests}
 use Rattle.un_link.proofs.Controlling.{same_steps}
 use Rattle.un_link.proofs.Unchanged.{always}
 
-nothing_added : (log : Log) → Adds log log []
-nothing_added log = record { history_is = sym (append-nil log.history); lines_left = omega arith; bytes_left = omega arith }
-
 -- a lane's work that answers alone
 idle_does : (script : Script) (phase : Phase) (w : Work) (way : Way) (log : Log) (answer : Answer) → work script log.history w ≡ Answers answer
     → Keeps script phase way (past way.lane log.history) → Does script phase w way way log log answer
 idle_does script phase w way log answer e k = record {
-  adds = subst (λ (o : Outcome). Adds log log (lines_in o)) (sym e) (nothing_added log);
+  adds = subst (λ (o : Outcome). Adds log log (lines_in o)) (sym e) (adds_none log);
   answers = ap answer_in (sym e);
   lane_is = refl;
   keeps = k;

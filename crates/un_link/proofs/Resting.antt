@@ -1,6 +1,6 @@
 -- When a link is quiet, and when it is finished.
 use Rattle.std.proofs.Common.{◌≡◌, ℕ, ◌<◌, Bool, true, false, not, ◌&&◌, ◌||◌, ◌==◌, ◌-◌, [], ◌∷◌, List, length, reverse, refl, sym, ap, ◌∙◌, arith, if◌then◌else◌}
-use Rattle.std.proofs.lemmas.Bool.{false≢true, ne_eqb}
+use Rattle.std.proofs.lemmas.Bool.{false≢true, ne_eqb, and_parts}
 use Rattle.std.proofs.lemmas.Bool.Decides.{nat_tests}
 use Rattle.un_frame.specs.declared.params.Lane.{Lane}
 use Rattle.un_frame.specs.declared.params.Lane.TheVariants.{Outward, Inward}
@@ -10,7 +10,7 @@ use Rattle.un_journal.specs.Script.{Script}
 use Rattle.un_journal.specs.History.{History, past}
 use Rattle.un_journal.specs.Lookup.{phase_of, is_stopping, is_leaving, is_asleep, controls_done, built_frames}
 use Rattle.un_journal.specs.LaneSteps.{Writes, Answers}
-use Rattle.un_journal.specs.Step.{Work, work, is_still, away, all_home, settled_line, quiet}
+use Rattle.un_journal.specs.Step.{Work, work, is_still, away, all_home, settled_line, quiet, offers_still}
 use Rattle.un_journal.specs.Fits.{Legal, IsDone}
 use Rattle.un_journal.specs.Done.{IsFinished}
 use Rattle.un_journal.proofs.Finished.{done_finished}
@@ -24,7 +24,7 @@ use Rattle.un_lane.specs.Stands.{Stands}
 use Rattle.un_lane.specs.Phases.{Agrees}
 use Rattle.un_link.specs.Keeps.{Keeps}
 use Rattle.un_link.specs.Link.{Link, Holds}
-use Rattle.un_link.specs.Ends.{is_finished, offers_still}
+use Rattle.un_link.specs.Ends.{is_finished}
 
 -- all requests are home exactly where none is away
 pub away_is : (script : Script) (h : History) → Legal script h → (away script h == 0) ≡ all_home script h
@@ -56,13 +56,9 @@ quiet_is script h out inward offers settles o i f s =
     ∙ (ap (λ b. (lane_still script h Outward && lane_still script h Inward) && (b && settles)) f ∙ (ap (λ b. (lane_still script h Outward && lane_still script h Inward) && ((offers_still script h Outward && offers_still script h Inward) && b)) (sym s) ∙ sym (quiet_parts script h))))
 
 -- a finished link is done
-and_both : (a b : Bool) → (a && b) ≡ true → (a ≡ true) × (b ≡ true)
-and_both true b e = (refl, e)
-and_both false b e = absurd (false≢true e)
-
 pub finished_done : (script : Script) (h : History) → Legal script h → is_finished script h ≡ true → IsDone script h
 finished_done script h legal e =
-    let both = and_both (quiet script h) (controls_done (reverse h) == length script.controls) e in
+    let both = and_parts (quiet script h) (controls_done (reverse h) == length script.controls) e in
     quiet_done script h legal both.0 (same _ _ both.1)
   where
     same : (n m : ℕ) → (n == m) ≡ true → n ≡ m

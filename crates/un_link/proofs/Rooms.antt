@@ -6,12 +6,11 @@ use Rattle.std.proofs.lemmas.List.{take_all}
 use Rattle.std.proofs.lemmas.Nat.{mul-le}
 use Rattle.un_frame.specs.declared.params.Lane.{Lane}
 use Rattle.un_frame.specs.declared.params.Lane.TheVariants.{Outward, Inward}
-use Rattle.un_journal.specs.Script.{Script, Frame, Feeds, frames_of, feed_list}
+use Rattle.un_journal.specs.Script.{Script, Frame, Feeds, frames_of, feed_list, frames_in_all, frame_count}
 use Rattle.un_journal.specs.Bytes.{frame_room}
-use Rattle.un_journal.specs.Drain.{line_bound, frame_count as frames_in}
+use Rattle.un_journal.specs.Drain.{line_bound}
 use Rattle.un_journal.proofs.NoLoss.{take_one}
 use Rattle.un_script.specs.Ready.{IsReady}
-use Rattle.un_script.specs.Parts.{frame_count, frames_in_all}
 
 -- one frame more of a feed
 pub feed_more : (frames : List Frame) (i before bytes bytes' : ℕ) (frame : Frame) → slice_get frames i ≡ Some frame → bytes ≡ before + sum_by frame_room (take i frames) → bytes' ≡ bytes + 192 + 2 * length frame
@@ -22,11 +21,6 @@ feed_more frames i before bytes bytes' frame at old new =
 
 pub feed_all : (frames : List Frame) (i before bytes : ℕ) → length frames ≤ i → bytes ≡ before + sum_by frame_room (take i frames) → bytes ≡ before + sum_by frame_room frames
 feed_all frames i before bytes low e = e ∙ ap (λ fs. before + sum_by frame_room fs) (take_all i frames low)
-
-pub none_past : (frames : List Frame) (i : ℕ) → slice_get frames i ≡ None → length frames ≤ i
-none_past [] i e = omega arith
-none_past (x ∷ xs) zero e = absurd (cc)
-none_past (x ∷ xs) (suc i) e = let w : length xs ≤ i = none_past xs i e in omega arith
 
 -- no feed has more frames than a script
 feeds_few : (feeds : Feeds) (sender : ℕ) → length (Rattle.std.specs.Prelude.unwrap_or (slice_get (feed_list feeds) sender) []) ≤ frames_in_all feeds
@@ -40,18 +34,10 @@ pub feed_few : (script : Script) (lane : Lane) (sender : ℕ) → IsReady script
 feed_few script Outward sender r = let f : frame_count script ≤ 65536 = r.few in let l : length (frames_of script Outward sender) ≤ frames_in_all script.outward = feeds_few script.outward sender in omega arith
 feed_few script Inward sender r = let f : frame_count script ≤ 65536 = r.few in let l : length (frames_of script Inward sender) ≤ frames_in_all script.inward = feeds_few script.inward sender in omega arith
 
--- both ways of counting a script's frames
-feeds_count : (feeds : Feeds) → sum_by length (feed_list feeds) ≡ frames_in_all feeds
-feeds_count feeds = omega arith
-
-pub count_is : (script : Script) → frames_in script ≡ frame_count script
-count_is script = let o : sum_by length (feed_list script.outward) ≡ frames_in_all script.outward = feeds_count script.outward in let i : sum_by length (feed_list script.inward) ≡ frames_in_all script.inward = feeds_count script.inward in omega arith
-
 -- a history has fewer lines than its counts have room for
 pub few_lines : (script : Script) → IsReady script → line_bound script < 2 ^ 63
 few_lines script r =
     let f : frame_count script ≤ 65536 = r.few in
-    let e : frames_in script ≡ frame_count script = count_is script in
     let c : length script.controls ≤ 256 = r.controls in
     let o : script.params.rx_out ≤ 64 = r.in_range.rx_out.1 in
     let i : script.params.rx_in ≤ 64 = r.in_range.rx_in.1 in

@@ -3,6 +3,8 @@ use Rattle.std.proofs.Common.{◌≡◌, ℕ, zero, suc, ◌+◌, ◌-◌, ◌<�
 use Rattle.std.specs.Option.{option_map}
 use Rattle.std.proofs.lemmas.Bool.{false≢true}
 use Rattle.std.proofs.lemmas.List.{take-append-drop}
+use Rattle.un_frame.proofs.LaneLemmas.{same_lane-refl, same_lane-is}
+use Rattle.un_facts.specs.Numbers.{one_if}
 use Rattle.un_frame.specs.declared.params.Lane.{Lane}
 use Rattle.un_frame.specs.declared.params.Lane.TheVariants.{Outward, Inward}
 use Rattle.un_frame.specs.Lanes.{same_lane}
@@ -12,21 +14,15 @@ use Rattle.un_journal.specs.declared.lines.Line.TheVariants.{Gave}
 use Rattle.un_journal.specs.Script.{Script}
 use Rattle.un_journal.specs.History.{Entry, History, past, concerns, gave, taken}
 use Rattle.un_journal.specs.Lookup.{phase_of}
-use Rattle.un_journal.specs.Census.{census, total, nowhere, one_if, NamesPlace}
+use Rattle.un_journal.specs.Census.{census, total, nowhere, NamesPlace}
 use Rattle.un_journal.specs.Fits.{Legal}
 use Rattle.un_journal.proofs.Counts.{adds_up, names_place, is_nowhere}
 use Rattle.un_journal.proofs.Onto.{onto, past_onto}
-use Rattle.un_journal.proofs.Steps.{legal_good, own_past, same_lane_same}
+use Rattle.un_journal.proofs.Steps.{legal_good, own_past}
 use Rattle.un_journal.proofs.Lists.{past_more}
 use Rattle.un_link.specs.Counts.{gives, in_path}
 
 -- A GAVE LINE
-
-same_lanes : (a b : Lane) → same_lane a b ≡ true → a ≡ b
-same_lanes Outward Outward e = refl
-same_lanes Inward Inward e = refl
-same_lanes Outward Inward e = absurd (false≢true e)
-same_lanes Inward Outward e = absurd (false≢true e)
 
 or_yes : (a : Bool) → (a || true) ≡ true
 or_yes true = refl
@@ -61,7 +57,7 @@ line_at h i line e = go (slice_get h i) refl e
     go (Some (l, bytes)) q w = let same : l ≡ line = cc in record { bytes = bytes; at = q ∙ ap (λ j. Some (j, bytes)) same }
 
 pub gave_at : (lane : Lane) (h : History) (i n : ℕ) (line : Line) → IsAt h i line → gives lane n line ≡ true → gave (past lane h) n ≡ true
-gave_at lane h i n (Gave l m) w y = here (same_lanes lane l (and_first (same_lane lane l) (m == n) y)) (and_second (same_lane lane l) (m == n) y)
+gave_at lane h i n (Gave l m) w y = here (same_lane-is lane l (and_first (same_lane lane l) (m == n) y)) (and_second (same_lane lane l) (m == n) y)
   where
     and_first : (a b : Bool) → (a && b) ≡ true → a ≡ true
     and_first true b e = refl
@@ -73,7 +69,7 @@ gave_at lane h i n (Gave l m) w y = here (same_lanes lane l (and_first (same_lan
 
     here : lane ≡ l → (m == n) ≡ true → gave (past lane h) n ≡ true
     here a b =
-        let front : past lane (take (i + 1) h) ≡ (Gave l m, w.bytes) ∷ past lane (take i h) = ap (past lane) (take_one i h (Gave l m, w.bytes) w.at) ∙ own_past (take i h) (Gave l m, w.bytes) lane (ap (λ x. same_lane lane x) (sym a) ∙ same_lane_same lane) in
+        let front : past lane (take (i + 1) h) ≡ (Gave l m, w.bytes) ∷ past lane (take i h) = ap (past lane) (take_one i h (Gave l m, w.bytes) w.at) ∙ own_past (take i h) (Gave l m, w.bytes) lane (ap (λ x. same_lane lane x) (sym a) ∙ same_lane-refl lane) in
         let at : gave (past lane (take (i + 1) h)) n ≡ true = ap (λ g. gave g n) front ∙ ap (λ x. x || gave (past lane (take i h)) n) b in
         ap (λ x. gave (past lane x) n) (sym (take-append-drop (i + 1) h)) ∙ (ap (λ g. gave g n) (past_onto lane (take (i + 1) h) (drop (i + 1) h)) ∙ gave_onto (filter (concerns lane) (drop (i + 1) h)) (past lane (take (i + 1) h)) n at)
 gave_at lane h i n line w y = absurd (false≢true y)

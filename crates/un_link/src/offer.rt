@@ -6,10 +6,9 @@ ghost use Rattle.un_frame.specs.Verdict.{verdict_of};
 ghost use Rattle.un_journal.specs.History.{past, consumed, more_if};
 ghost use Rattle.un_journal.specs.Lookup.{feed_head, phase_of, works};
 ghost use Rattle.un_journal.specs.LaneSteps.{lines_in};
-ghost use Rattle.un_journal.specs.Step.{Offer, is_still, work};
+ghost use Rattle.un_journal.specs.Step.{Offer, is_still, work, offers_still};
 ghost use Rattle.un_lane.specs.Way.{HasRoom};
 ghost use Rattle.un_lane.specs.Answered.{UnlessDid};
-ghost use Rattle.un_link.specs.Ends.{offers_still};
 ghost use Rattle.un_link.specs.Keeps.{AreRead, Does, Keeps};
 
 use crate::cursors::Cursors;

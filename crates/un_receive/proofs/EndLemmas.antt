@@ -1,5 +1,6 @@
 -- What a receiving end keeps after each of its calls, over its fields.
 use Rattle.std.proofs.Common.{◌≡◌, ℕ, ◌+◌, ◌-◌, ◌<◌, List, [], ◌∷◌, ◌++◌, length, Option, None, Some, is_some, false, IfSome, IfNone, refl, sym, ap, ◌∙◌, subst, arith}
+use Rattle.un_frame.specs.Lanes.{rx_size}
 use Rattle.un_frame.specs.declared.params.Lane.{Lane}
 use Rattle.un_frame.specs.declared.params.Params.{Params}
 use Rattle.un_frame.specs.Parts.{datagram_of}
@@ -11,7 +12,7 @@ use Rattle.un_req.specs.Request.{Buffer, IsOut, Store, blank, upto}
 use Rattle.un_endpoint.specs.Ends.{IsAwayRx, IsWhole}
 use Rattle.un_endpoint.specs.EndOutcomes.{IsLent}
 use Rattle.un_ends.specs.Rows.{Row, no_requests}
-use Rattle.un_receive.specs.Rx.{IsSoundRx, fresh_rx, rx_size}
+use Rattle.un_receive.specs.Rx.{IsSoundRx, fresh_rx}
 use Rattle.un_receive.specs.Reading.{IsLaneRx, IsReading, IsReadingIf, opened_of, receiver_in}
 use Rattle.un_receive.specs.declared.receiver.Current.{Current}
 use Rattle.un_receive.specs.declared.receiver.LaneRx.TheInside.{Inside}
@@ -84,7 +85,7 @@ lends end current part k is part_is =
     record { opened = record { request = current.request; next = current.next }; is_current = ap opened_of is; number_is = refl; bytes_are = part_is ∙ ap (datagram_of class current.request.bytes) index }
 
 -- a new end
-pub started : {L : Type 0} (lane : Lane) (params : Params) (codec : Codec) (size capacity : ℕ) (pool : Store) (arrived : Row) → coding_of codec ≡ fresh params → size ≡ rx_size lane params → capacity ≡ capacity_of (coding_of codec).params
+pub started : {L : Type 0} (lane : Lane) (params : Params) (codec : Codec) (size capacity : ℕ) (pool : Store) (arrived : Row) → coding_of codec ≡ fresh params → size ≡ rx_size params lane → capacity ≡ capacity_of (coding_of codec).params
     → pool ≡ record { count = size; capacity = capacity; home = upto size } → arrived ≡ no_requests size → IsLaneRx {L = L} (record { codec = codec; pool = pool; arrived = arrived; current = None; lane = record {} })
 started lane params codec size capacity pool arrived coding_is size_is capacity_is pool_is arrived_is =
     let params_are : (coding_of codec).params ≡ params = ap (λ (c : Coding). c.params) coding_is in

@@ -7,7 +7,7 @@ use Rattle.un_frame.specs.Bytes.{AreBytes}
 use Rattle.un_frame.specs.Laws.{FaultIsExact}
 use Rattle.un_frame.specs.Parts.{ReadsAs}
 use Rattle.un_frame.specs.Wire.{fault_of}
-use Rattle.un_frame.proofs.WireLemmas.{ecm_exact, eem_is_exact, ncm16_exact, ncm32_exact}
+use Rattle.un_frame.proofs.WireLemmas.{ecm_exact, eem_is_exact, ncm16_exact, ncm32_exact, fault_is_exact}
 use Rattle.un_req.specs.Request.{Buffer}
 use Rattle.un_wire.specs.Cursors.{IsAt, part_count, part_index}
 use Rattle.un_wire.specs.declared.cursor.Cursor.{Cursor}
@@ -15,15 +15,9 @@ use Rattle.un_wire.proofs.CursorLemmas.{counts_are_parts}
 use Rattle.un_endpoint.specs.Ends.{IsWhole}
 use Rattle.un_receive.specs.Reading.{IsReading}
 
-exact : (class : Class) → FaultIsExact class
-exact Ecm = ecm_exact
-exact Eem = eem_is_exact
-exact Ncm16 = ncm16_exact
-exact Ncm32 = ncm32_exact
-
 -- a transfer that is read has no fault
 pub no_fault : (class : Class) (bytes : List ℕ) (count : ℕ) → AreBytes bytes → ReadsAs class bytes count → fault_of class bytes ≡ None
-no_fault class bytes count small r = (exact class bytes small).1 (r.reads.places, r.commands, r.reads.found)
+no_fault class bytes count small r = (fault_is_exact class bytes small).1 (r.reads.places, r.commands, r.reads.found)
 
 -- the cursor at the first part is that of the first number
 pub opened : (params : Params) (request : Buffer) (cursor : Cursor) → IsWhole params request → IsAt params.class request.bytes cursor → part_index params.class request.bytes cursor ≡ 0

@@ -2,15 +2,20 @@
 use Rattle.std.proofs.Common.{◌≡◌, ℕ, suc, ◌+◌, ◌<◌, ◌≤◌, Bool, true, false, eqb, nat_lt, List, [], ◌∷◌, ◌++◌, length, map, Option, None, Some, refl, sym, ap, ◌∙◌, subst, arith}
 use Rattle.std.proofs.lemmas.Bool.{ltb-true, ltb-false}
 use Rattle.std.specs.List.{AllByRecursion}
+use Rattle.un_req.proofs.Homes.{numbers_length, upto_none, upto_once}
+use Rattle.un_frame.specs.Lanes.{rx_size}
+use Rattle.un_facts.proofs.Lists.{all_more}
+use Rattle.un_facts.proofs.Copies.{copies_append}
+use Rattle.un_facts.proofs.Numbers.{one_here}
+use Rattle.un_facts.specs.Lists.{copies}
+use Rattle.un_facts.specs.Numbers.{one_if}
 use Rattle.un_frame.specs.declared.params.Lane.{Lane}
 use Rattle.un_frame.specs.declared.params.Params.{Params}
-use Rattle.un_req.specs.Request.{Buffer, IsOut, Store, copies, number_of, one_if}
-use Rattle.un_req.proofs.Homes.{all_more}
+use Rattle.un_req.specs.Request.{Buffer, IsOut, Store, number_of}
 use Rattle.un_endpoint.specs.Ends.{IsAwayRx, IsWhole, Opened, Receiver, opened_number, rx_copies}
 use Rattle.un_endpoint.specs.EndOutcomes.{LeavesHome}
-use Rattle.un_ends.proofs.Copies.{copies_append, copies_last, few, none_has, one_cases, one_here}
-use Rattle.un_ends.proofs.Starts.{upto_none, upto_once}
-use Rattle.un_receive.specs.Rx.{IsSized, IsSoundRx, fresh_rx, rx_size}
+use Rattle.un_ends.proofs.Copies.{copies_last, few, none_has, one_cases}
+use Rattle.un_receive.specs.Rx.{IsSized, IsSoundRx, fresh_rx}
 
 -- the pool of an end
 abbrev pub store_of : Receiver → Store
@@ -19,18 +24,13 @@ store_of r = record { count = r.size; capacity = r.capacity; home = r.home }
 pub fresh_sound : (lane : Lane) (params : Params) → IsSoundRx (fresh_rx lane params)
 fresh_sound lane params = record {
   places = record {
-    once = λ n. let home = upto_once (rx_size lane params) n in omega (arith, home);
-    known = λ n big. let home = upto_none (rx_size lane params) n big in omega (arith, home);
+    once = λ n. let home = upto_once (rx_size params lane) n in omega (arith, home);
+    known = λ n big. let home = upto_none (rx_size params lane) n big in omega (arith, home);
   };
   whole = tt;
   arrived_sized = tt;
   current_sized = tt;
 }
-
--- as many numbers as requests
-numbers_length : (rs : List Buffer) → length (map number_of rs) ≡ length rs
-numbers_length [] = refl
-numbers_length (r ∷ rs) = ap (λ n. suc n) (numbers_length rs)
 
 -- A REQUEST THAT IS IN NONE OF THE PLACES
 

@@ -1,6 +1,7 @@
 -- A receiving end: how it begins, and what always holds of it.
 use Rattle.std.specs.Prelude.{◌≡◌, ℕ, ◌≤◌, [], Option, None, Some}
 use Rattle.std.specs.List.{AllByRecursion}
+use Rattle.un_frame.specs.Lanes.{rx_size}
 use Rattle.un_frame.specs.declared.params.Params.{Params}
 use Rattle.un_frame.specs.declared.params.Lane.{Lane}
 use Rattle.un_frame.specs.declared.params.Lane.TheVariants.{Outward, Inward}
@@ -8,18 +9,13 @@ use Rattle.un_frame.specs.Wire.{capacity_of}
 use Rattle.un_req.specs.Request.{upto}
 use Rattle.un_endpoint.specs.Ends.{Opened, Receiver, IsWhole, rx_copies}
 
--- how many requests the receiving end of a lane has
-abbrev pub rx_size : Lane → Params → ℕ
-rx_size Outward params = params.rx_out
-rx_size Inward params = params.rx_in
-
 -- a new end: all of its requests are home
 abbrev pub fresh_rx : Lane → Params → Receiver
 fresh_rx lane params = record {
   params = params;
-  size = rx_size lane params;
+  size = rx_size params lane;
   capacity = capacity_of params;
-  home = upto (rx_size lane params);
+  home = upto (rx_size params lane);
   arrived = [];
   current = None;
 }

@@ -1,13 +1,14 @@
 //! The receiving end.
 
 ghost use Rattle.std.specs.Prelude.{◌≡◌, ◌≤◌, ℕ, IfOk};
+ghost use Rattle.un_frame.specs.Lanes.{rx_size};
 ghost use Rattle.un_frame.specs.Params.{Agree, AreInRange};
 ghost use Rattle.un_endpoint.specs.Ends.{IsWhole, current_count, rx_copies};
 ghost use Rattle.un_receive.specs.Reading.{IsReading, opened_of};
 ghost use Rattle.un_wire.specs.Codings.{coding_of};
 ghost use Rattle.un_wire.specs.Cursors.{IsAt, part_index};
 ghost use Rattle.un_frame.specs.Parts.{ReadsAs};
-ghost use Rattle.un_receive.specs.Rx.{fresh_rx, rx_size};
+ghost use Rattle.un_receive.specs.Rx.{fresh_rx};
 
 use crate::lane::OnLane;
 use std::alloc::{AllocError, Global};
@@ -161,7 +162,7 @@ impl<L> RxEnd for LaneRx<L> {
 /// How many requests the receiving end of a lane has.
 fn size_of(lane: Lane, params: &Params) -> u32
     requires { AreInRange params.now }
-    ensures size { result ≡ rx_size lane params.now }
+    ensures size { result ≡ rx_size params.now lane }
     ensures some { 1 ≤ result }
 {
     match lane {

@@ -2,8 +2,7 @@
 use Rattle.std.proofs.Common.{ℕ, zero, suc, ◌+◌, ◌<◌, ◌≤◌, ◌≡◌, List, [], ◌∷◌, length, Option, Some, None, slice_get, arith}
 use Rattle.un_frame.specs.declared.params.Lane.{Lane}
 use Rattle.un_frame.specs.declared.params.Lane.TheVariants.{Outward, Inward}
-use Rattle.un_journal.specs.Script.{Script, Frame, Feeds, feed_list, frames_of}
-use Rattle.un_script.specs.Parts.{frames_in_all, frame_count}
+use Rattle.un_journal.specs.Script.{Script, Frame, Feeds, feed_list, frames_of, frames_in_all, frame_count}
 use Rattle.std.specs.Option.{unwrap_or}
 
 of_feeds : (feeds : Feeds) (sender : ℕ) → length (unwrap_or (slice_get (feed_list feeds) sender) []) ≤ frames_in_all feeds
@@ -21,8 +20,3 @@ pub some_below : (frames : List Frame) (i : ℕ) (f : Frame) → slice_get frame
 some_below [] i f e = absurd (cc)
 some_below (x ∷ xs) zero f e = omega arith
 some_below (x ∷ xs) (suc i) f e = let a = some_below xs i f e in omega (arith, a)
-
-pub none_above : (frames : List Frame) (i : ℕ) → slice_get frames i ≡ None → length frames ≤ i
-none_above [] i e = omega arith
-none_above (x ∷ xs) zero e = absurd (cc)
-none_above (x ∷ xs) (suc i) e = let a = none_above xs i e in omega (arith, a)

@@ -10,18 +10,18 @@ use Rattle.un_frame.specs.Lanes.{same_lane}
 use Rattle.un_journal.specs.declared.lines.Line.{Line}
 use Rattle.un_journal.specs.declared.lines.Line.TheVariants.{Took, Refused, Made, Landed, Failed, Cut, Dropped, Gave, Settled}
 use Rattle.un_journal.specs.declared.controls.Due.{Due}
-use Rattle.un_journal.specs.History.{Entry, History, past, concerns, made, span, made_bytes, flies, more_if}
+use Rattle.un_journal.specs.History.{Entry, History, past, concerns, made, span, made_bytes, flies, more_if, ends}
 use Rattle.un_journal.specs.Lookup.{phase_after}
 use Rattle.un_journal.specs.Log.{IsEntry, AreEntries, FitsTypes}
 use Rattle.un_journal.specs.Sound.{IsSound, IsNext}
 use Rattle.un_journal.proofs.Lists.{past_more}
-use Rattle.un_journal.proofs.Onto.{onto, newest, past_onto}
-use Rattle.un_journal.proofs.Order.{ends, in_order, flight_is, next_is}
+use Rattle.un_journal.proofs.Onto.{onto, newest, past_onto, sound_below}
+use Rattle.un_journal.proofs.Order.{in_order, flight_is, next_is}
 use Rattle.un_journal.proofs.Homes.{flying_made}
 use Rattle.un_report.specs.declared.tally.Tally.{Tally}
 use Rattle.un_report.specs.declared.lot.Lot.{Lot}
 use Rattle.un_report.specs.Counts.{span_size, counts, is_short, is_long, is_filtered}
-use Rattle.un_report.specs.Steps.{is_end, line_counted, end_counted, IsWithin, endings, made_span, IsLot, phase_after_line}
+use Rattle.un_report.specs.Steps.{is_end, line_counted, end_counted, IsWithin, made_span, IsLot, phase_after_line}
 
 -- FRONTS OF A HISTORY
 
@@ -65,17 +65,13 @@ grown lane h i n le =
     let r = split_take h i n le in
     (filter (concerns lane) r.0, ap (past lane) r.1 ∙ past_onto lane (take i h) r.0)
 
-sound_under : (es g : History) → IsSound (onto es g) → IsSound g
-sound_under [] g sound = sound
-sound_under (e ∷ es) g sound = (sound_under es (e ∷ g) sound).1
-
 whole_past : (lane : Lane) (h : History) → past lane (take (length h) h) ≡ past lane h
 whole_past lane h = ap (past lane) (take_all (length h) h (omega arith))
 
 pub sound_front : (lane : Lane) (h : History) (i : ℕ) → i ≤ length h → IsSound (past lane h) → IsSound (past lane (take i h))
 sound_front lane h i le sound =
     let r = grown lane h i (length h) le in
-    sound_under r.0 (past lane (take i h)) (subst IsSound (sym (whole_past lane h) ∙ r.1) sound)
+    sound_below r.0 (past lane (take i h)) (subst IsSound (sym (whole_past lane h) ∙ r.1) sound)
 
 -- THE TRANSFER OF A LINE
 
@@ -93,7 +89,7 @@ kept_one e g k s bytes sound w = record { below = w.below; spans = w.spans; carr
 
 kept : (es g : History) (k : ℕ) (s : ℕ × ℕ) (bytes : List ℕ) → IsSound (onto es g) → Kept g k s bytes → Kept (onto es g) k s bytes
 kept [] g k s bytes sound w = w
-kept (e ∷ es) g k s bytes sound w = kept es (e ∷ g) k s bytes sound (kept_one e g k s bytes (sound_under es (e ∷ g) sound) w)
+kept (e ∷ es) g k s bytes sound w = kept es (e ∷ g) k s bytes sound (kept_one e g k s bytes (sound_below es (e ∷ g) sound) w)
 
 -- the line that makes a transfer
 made_is : (lane : Lane) (line : Line) (s : ℕ × ℕ) → made_span lane line ≡ Some s → (l : Lane) × (j : ℕ) × (same_lane lane l ≡ true) × (line ≡ Made l j s.0 s.1)
@@ -128,7 +124,7 @@ found lane h i n line bytes s sound le low got is =
     let step : past lane (take (i + 1) h) ≡ e ∷ past lane (take i h) = past_step lane h i (line, bytes) got ∙ made_more lane m.0 m.1 s.0 s.1 line bytes (past lane (take i h)) m.3 m.2 in
     let r = grown lane h (i + 1) n (omega arith) in
     let sound' : IsSound (onto r.0 (e ∷ past lane (take i h))) = subst IsSound (r.1 ∙ ap (onto r.0) step) (sound_front lane h n le sound) in
-    let k = kept r.0 (e ∷ past lane (take i h)) (made (past lane (take i h))) (s.0, s.1) bytes sound' (made_first (past lane (take i h)) m.0 m.1 s.0 s.1 bytes (sound_under r.0 (e ∷ past lane (take i h)) sound')) in
+    let k = kept r.0 (e ∷ past lane (take i h)) (made (past lane (take i h))) (s.0, s.1) bytes sound' (made_first (past lane (take i h)) m.0 m.1 s.0 s.1 bytes (sound_below r.0 (e ∷ past lane (take i h)) sound')) in
     record {
       spans = rw (r.1, step) k.spans;
       carries = rw (r.1, step) k.carries;
@@ -166,19 +162,19 @@ counted_line packet (Failed l k kind) bytes g e = absurd (cc)
 counted_line packet (Cut l k c) bytes g e = absurd (cc)
 counted_line packet line bytes g e = refl
 
-endings_line : (line : Line) (bytes : List ℕ) (g : History) → is_end line ≡ false → endings ((line, bytes) ∷ g) ≡ endings g
+endings_line : (line : Line) (bytes : List ℕ) (g : History) → is_end line ≡ false → ends ((line, bytes) ∷ g) ≡ ends g
 endings_line (Landed l k) bytes g e = absurd (cc)
 endings_line (Failed l k kind) bytes g e = absurd (cc)
 endings_line (Cut l k c) bytes g e = absurd (cc)
 endings_line line bytes g e = refl
 
-endings_end : (line : Line) (bytes : List ℕ) (g : History) → is_end line ≡ true → endings ((line, bytes) ∷ g) ≡ endings g + 1
+endings_end : (line : Line) (bytes : List ℕ) (g : History) → is_end line ≡ true → ends ((line, bytes) ∷ g) ≡ ends g + 1
 endings_end (Landed l k) bytes g e = refl
 endings_end (Failed l k kind) bytes g e = refl
 endings_end (Cut l k c) bytes g e = refl
 endings_end line bytes g e = absurd (cc)
 
-same_ends : (g : History) → endings g ≡ ends g
+same_ends : (g : History) → ends g ≡ ends g
 same_ends [] = refl
 same_ends ((Landed l k, bytes) ∷ g) = ap (λ n. n + 1) (same_ends g)
 same_ends ((Failed l k kind, bytes) ∷ g) = ap (λ n. n + 1) (same_ends g)
@@ -193,7 +189,7 @@ Ends (Cut l j c) k = j ≡ k
 Ends line k = ⊥
 
 -- it ends the next one
-pub next_end : (line : Line) (bytes : List ℕ) (g : History) → is_end line ≡ true → IsSound ((line, bytes) ∷ g) → Ends line (endings g) × (endings g < made g)
+pub next_end : (line : Line) (bytes : List ℕ) (g : History) → is_end line ≡ true → IsSound ((line, bytes) ∷ g) → Ends line (ends g) × (ends g < made g)
 next_end (Landed l j) bytes g e sound =
     let at = flight_is g sound.1 (in_order g sound.1) j sound.0 in
     let low = flying_made g sound.1 j sound.0 in
@@ -206,7 +202,7 @@ next_end (Failed l j kind) bytes g e sound =
     (at ∙ sym same, omega (arith, at, low, same))
 next_end (Cut l j c) bytes g e sound = pick sound.0
   where
-    pick : (flies g j ≡ true) ⊎ IsNext g j → (j ≡ endings g) × (endings g < made g)
+    pick : (flies g j ≡ true) ⊎ IsNext g j → (j ≡ ends g) × (ends g < made g)
     pick (inl f) =
         let at = flight_is g sound.1 (in_order g sound.1) j f in
         let low = flying_made g sound.1 j f in
@@ -305,7 +301,7 @@ lot_ends packet lane h i next datagrams size lot line t low sound got ours over 
     let e = with_bytes (slice_get h i) line got in
     let step = step_is lane h i line e.0 true ours e.1 in
     let n = next_end line e.0 g over (subst IsSound step (sound_front lane h (i + 1) (omega arith) sound)) in
-    let all : t ≡ counts packet ((line, e.0) ∷ g) = told ∙ rw (d, b, w.ended, w.counted) (sym (counted_end packet line e.0 g (endings g) n.0)) in
+    let all : t ≡ counts packet ((line, e.0) ∷ g) = told ∙ rw (d, b, w.ended, w.counted) (sym (counted_end packet line e.0 g (ends g) n.0)) in
     record {
       counted = rw step all;
       within = rw told (within_end i line datagrams size packet lot.tally small few w.within);

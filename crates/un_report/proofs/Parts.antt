@@ -2,6 +2,7 @@
 use Rattle.std.proofs.Common.{ℕ, zero, suc, ◌+◌, ◌<◌, ◌≤◌, ◌≡◌, List, [], ◌∷◌, ◌++◌, length, take, drop, codes, decimal, Option, Some, None, slice_get, slice_index_or, refl, sym, ap, ◌∙◌, subst, arith, add-one, append_assoc, append-nil}
 use Rattle.std.specs.List.{flat_map}
 use Rattle.std.proofs.lemmas.List.{take_all, take-append-drop}
+use Rattle.un_frame.specs.Spelling.{lane_word}
 use Rattle.hex.specs.Hex.{encode_lower}
 use Rattle.un_frame.specs.declared.params.Lane.{Lane}
 use Rattle.un_frame.specs.declared.kinds.Phase.{Phase}
@@ -13,7 +14,6 @@ use Rattle.un_io.specs.Io.{Stopped}
 use Rattle.un_journal.specs.Script.{Script}
 use Rattle.un_journal.specs.History.{History, past}
 use Rattle.un_journal.specs.Lookup.{phase_of}
-use Rattle.un_journal.specs.Text.{lane_word}
 use Rattle.un_report.specs.declared.tally.Tally.{Tally}
 use Rattle.un_report.specs.Counts.{counts, fed}
 use Rattle.un_report.specs.Report.{payload_word, opening, control_head, control_line, notify_line, frame_head, delivered_line, frame_line, lane_line, lane_part, lanes, set_up, last_lines, report}

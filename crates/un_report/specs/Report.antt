@@ -1,6 +1,7 @@
 -- The text of a report, as a function of the script, the agreement and the history.
 use Rattle.std.specs.Prelude.{ℕ, List, [], ◌∷◌, ◌++◌, codes, decimal, Option, Some, None, if◌then◌else◌}
 use Rattle.std.specs.List.{flat_map}
+use Rattle.un_frame.specs.Spelling.{lane_word, class_word}
 use Rattle.hex.specs.Hex.{encode_lower}
 use Rattle.un_frame.specs.declared.params.Class.{Class}
 use Rattle.un_frame.specs.declared.params.Class.TheVariants.{Ecm, Eem, Ncm16, Ncm32}
@@ -19,15 +20,8 @@ use Rattle.un_journal.specs.declared.lines.Line.TheVariants.{Gave}
 use Rattle.un_journal.specs.Script.{Script}
 use Rattle.un_journal.specs.History.{Entry, History, past}
 use Rattle.un_journal.specs.Lookup.{phase_of}
-use Rattle.un_journal.specs.Text.{lane_word}
 use Rattle.un_report.specs.declared.tally.Tally.{Tally}
 use Rattle.un_report.specs.Counts.{counts, fed, left_over}
-
-abbrev pub class_word : Class → List ℕ
-class_word Ecm = codes "ecm"
-class_word Eem = codes "eem"
-class_word Ncm16 = codes "ncm16"
-class_word Ncm32 = codes "ncm32"
 
 abbrev pub phase_word : Phase → List ℕ
 phase_word Up = codes "up"

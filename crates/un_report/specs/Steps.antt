@@ -6,7 +6,7 @@ use Rattle.un_frame.specs.declared.kinds.Phase.{Phase}
 use Rattle.un_journal.specs.declared.lines.Line.{Line}
 use Rattle.un_journal.specs.declared.lines.Line.TheVariants.{Took, Refused, Made, Landed, Failed, Cut, Dropped, Gave, Settled}
 use Rattle.un_journal.specs.declared.controls.Due.{Due}
-use Rattle.un_journal.specs.History.{History, past, made, more_if}
+use Rattle.un_journal.specs.History.{History, past, made, more_if, ends}
 use Rattle.un_journal.specs.Lookup.{after_control, after_settled}
 use Rattle.un_report.specs.declared.tally.Consumed.{Consumed}
 use Rattle.un_report.specs.declared.tally.Tally.{Tally}
@@ -56,14 +56,6 @@ IsWithin n t =
     × (t.consumed.first ≤ n) × (t.consumed.second ≤ n) × (t.consumed.third ≤ n) × (t.consumed.fourth ≤ n)
     × (t.failed ≤ n * 18446744073709551616) × (t.cut ≤ n * 18446744073709551616) × (t.dropped ≤ n * 18446744073709551616) × (t.packets ≤ n * 18446744073709551616)
 
--- the transfers of a lane that have ended
-abbrev pub endings : History → ℕ
-endings [] = 0
-endings ((Landed l k, bytes) ∷ g) = endings g + 1
-endings ((Failed l k kind, bytes) ∷ g) = endings g + 1
-endings ((Cut l k c, bytes) ∷ g) = endings g + 1
-endings (e ∷ g) = endings g
-
 -- the span of a line of the lane that makes a transfer
 abbrev pub made_span : Lane → Line → Option (ℕ × ℕ)
 made_span lane (Made l k a b) = if same_lane lane l then Some (a, b) else None
@@ -75,7 +67,7 @@ pub record IsLot (packet : ℕ) (lane : Lane) (h : History) (i : ℕ) (lot : Lot
   pub counted : lot.tally ≡ counts packet (past lane (take i h))
   pub within : IsWithin i lot.tally
   pub order : lot.next ≤ i
-  pub ended : made (past lane (take lot.next h)) ≡ endings (past lane (take i h))
+  pub ended : made (past lane (take lot.next h)) ≡ ends (past lane (take i h))
 
 -- the phase after one line more
 abbrev pub phase_after_line : List Due → Line → Phase → Phase

@@ -2,9 +2,9 @@
 
 ghost use Rattle.std.specs.Prelude.{◌≡◌, ◌+◌, ◌≤◌, ◌∷◌, ◌++◌, [], length, codes, decimal, OnOk, OnErr};
 ghost use Rattle.std.specs.List.{flat_map};
+ghost use Rattle.un_frame.specs.Spelling.{lane_word};
 ghost use Rattle.un_io.specs.Io.{Rose, Stopped};
 ghost use Rattle.un_journal.specs.History.{past};
-ghost use Rattle.un_journal.specs.Text.{lane_word};
 ghost use Rattle.un_journal.specs.Wrote.{Wrote};
 ghost use Rattle.un_report.specs.Counts.{counts, fed};
 ghost use Rattle.un_report.specs.Report.{lane_line, lane_part, frame_head, delivered_line, frame_line, given_number};

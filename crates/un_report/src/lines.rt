@@ -1,16 +1,16 @@
 //! The lines of a report that have a bound on their length.
 
 ghost use Rattle.std.specs.Prelude.{◌≡◌, ◌+◌, ◌≤◌, ◌∷◌, ◌++◌, [], length, decimal, codes};
-ghost use Rattle.un_journal.specs.Text.{lane_word};
+ghost use Rattle.un_frame.specs.Spelling.{lane_word, class_word};
 ghost use Rattle.un_report.specs.Counts.{left_over};
-ghost use Rattle.un_report.specs.Report.{class_word, phase_word, block_of, class_line, sizes_line, opening, item, offered, fates, rest, lane_line, frame_head, last_lines};
+ghost use Rattle.un_report.specs.Report.{phase_word, block_of, class_line, sizes_line, opening, item, offered, fates, rest, lane_line, frame_head, last_lines};
 
 use crate::tally::Tally;
 use un_frame::{Class, Lane, Params, Phase};
 use un_journal::{Buffer, number, word};
 
 fn class_word(class: Class) -> &'static [u8]
-    ensures word { result.now ≡ Rattle.un_report.specs.Report.class_word class }
+    ensures word { result.now ≡ Rattle.un_frame.specs.Spelling.class_word class }
     ensures short { length result.now ≤ 5 }
 {
     match class {
@@ -36,7 +36,7 @@ fn phase_word(phase: Phase) -> &'static [u8]
 }
 
 fn lane_word(lane: Lane) -> &'static [u8]
-    ensures word { result.now ≡ Rattle.un_journal.specs.Text.lane_word lane }
+    ensures word { result.now ≡ Rattle.un_frame.specs.Spelling.lane_word lane }
     ensures short { length result.now ≤ 3 }
 {
     match lane {

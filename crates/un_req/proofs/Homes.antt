@@ -1,24 +1,21 @@
 -- Which requests of a pool are home, after one was taken or came back.
-use Rattle.std.proofs.Common.{◌≡◌, ℕ, zero, suc, ◌+◌, ◌<◌, ◌≤◌, Bool, true, false, ◌||◌, eqb, List, [], ◌∷◌, ◌++◌, length, map, refl, sym, ap, ◌∙◌, subst, arith, inl, inr, add-one, append-nil, Option, Some, None, option_to_list, IfSome}
-use Rattle.std.proofs.lemmas.Bool.{false≢true, eqb-true, or_cases}
+use Rattle.std.proofs.Common.{◌≡◌, ℕ, zero, suc, ◌+◌, ◌<◌, ◌≤◌, Bool, true, false, eqb, List, [], ◌∷◌, ◌++◌, length, map, refl, sym, ap, ◌∙◌, subst, arith, inl, inr, add-one, append-nil, Option, Some, None, option_to_list, IfSome}
+use Rattle.std.proofs.lemmas.Bool.{false≢true, eqb-true, or_cases, or_parts}
 use Rattle.std.proofs.lemmas.Map.Steps.{length-le_from_distinct_below}
 use Rattle.std.specs.List.{IsDistinct, AllByRecursion}
+use Rattle.un_facts.proofs.Copies.{copies_last}
+use Rattle.un_facts.proofs.Lists.{all_more}
+use Rattle.un_facts.proofs.Numbers.{one_most}
+use Rattle.un_facts.specs.Lists.{copies}
+use Rattle.un_facts.specs.Numbers.{one_if}
 use Rattle.un_req.specs.Request.{Buffer, Store, AreHome, IsOut, blank, has, number_of, upto}
 
 pub all_front : {X : Type 0} (P : X → Type 0) (xs : List X) (y : X) → AllByRecursion P (xs ++ y ∷ []) → AllByRecursion P xs × P y
 all_front P [] y a = (tt, a.0)
 all_front P (x ∷ xs) y a = let r = all_front P xs y a.1 in ((a.0, r.0), r.1)
 
-pub all_more : {X : Type 0} (P : X → Type 0) (xs : List X) (y : X) → AllByRecursion P xs → P y → AllByRecursion P (xs ++ y ∷ [])
-all_more P [] y a p = (p, tt)
-all_more P (x ∷ xs) y a p = (a.0, all_more P xs y a.1 p)
-
 eqb_swap : (m n : ℕ) → eqb m n ≡ false → eqb n m ≡ false
 eqb_swap m n e = grind (arith)
-
-or_false : (a b : Bool) → (a || b) ≡ false → (a ≡ false) × (b ≡ false)
-or_false false b e = (refl, e)
-or_false true b e = absurd (false≢true (sym e))
 
 pub distinct_front : (xs : List ℕ) (y : ℕ) → IsDistinct eqb (xs ++ y ∷ []) → IsDistinct eqb xs × (has y xs ≡ false)
 unfolding IsDistinct
@@ -32,7 +29,7 @@ pub distinct_more : (xs : List ℕ) (y : ℕ) → IsDistinct eqb xs → has y xs
 unfolding IsDistinct
 distinct_more [] y d h = (tt, tt)
 distinct_more (x ∷ xs) y d h =
-    let r = or_false (eqb y x) (has y xs) h in
+    let r = or_parts (eqb y x) (has y xs) h in
     (all_more (λ z. eqb x z ≡ false) xs y d.0 (eqb_swap y x r.0), distinct_more xs y d.1 r.1)
 
 pub map_last : (xs : List Buffer) (y : Buffer) → map number_of (xs ++ y ∷ []) ≡ map number_of xs ++ y.number ∷ []
@@ -61,7 +58,7 @@ home_more count capacity number xs h b a = record {
 
 apart_all : (y : ℕ) (xs : List ℕ) → has y xs ≡ false → AllByRecursion (λ x. eqb y x ≡ false) xs
 apart_all y [] h = tt
-apart_all y (x ∷ xs) h = let r = or_false (eqb y x) (has y xs) h in (r.0, apart_all y xs r.1)
+apart_all y (x ∷ xs) h = let r = or_parts (eqb y x) (has y xs) h in (r.0, apart_all y xs r.1)
 
 below_any : (count : ℕ) (xs : List Buffer) → AllByRecursion (λ r. r.number < count) xs → (q : ℕ) → has q (map number_of xs) ≡ true → q < count
 below_any count [] a q h = absurd (false≢true h)
@@ -70,9 +67,9 @@ below_any count (x ∷ xs) a q h = elim (or_cases (eqb q x.number) (has q (map n
   | inr rest ↦ below_any count xs a.1 q rest
 ]
 
-length_map : (xs : List Buffer) → length (map number_of xs) ≡ length xs
-length_map [] = refl
-length_map (x ∷ xs) = ap (λ n. suc n) (length_map xs)
+pub numbers_length : (xs : List Buffer) → length (map number_of xs) ≡ length xs
+numbers_length [] = refl
+numbers_length (x ∷ xs) = ap (λ n. suc n) (numbers_length xs)
 
 -- a pool from which a request is out has room for it
 pub home_room : (count capacity number : ℕ) (xs : List Buffer) → AreHome count capacity xs → number < count → has number (map number_of xs) ≡ false → length xs < count
@@ -84,7 +81,7 @@ home_room count capacity number xs h b a =
       | inl same ↦ let e : q ≡ number = eqb-true q number same in omega arith
       | inr rest ↦ below_any count xs h.below q rest
     ]) in
-    let same : length (map number_of xs) ≡ length xs = length_map xs in
+    let same : length (map number_of xs) ≡ length xs = numbers_length xs in
     omega arith
 
 -- the numbers from one on don't stand below it
@@ -97,7 +94,7 @@ upto_away (suc m) k h = has_last k m (upto m) (omega arith) (upto_away m k (omeg
 
     has_last : (n x : ℕ) (xs : List ℕ) → x < n → has n xs ≡ false → has n (xs ++ x ∷ []) ≡ false
     has_last n x [] l e = rw (ne x n l) refl
-    has_last n x (y ∷ ys) l e = let r = or_false (eqb n y) (has n ys) e in rw (r.0, has_last n x ys l r.1) refl
+    has_last n x (y ∷ ys) l e = let r = or_parts (eqb n y) (has n ys) e in rw (r.0, has_last n x ys l r.1) refl
 
 -- a pool that is being made
 pub made_more : (count capacity n : ℕ) (xs ys : List Buffer) → AreHome count capacity xs → map number_of xs ≡ upto n → n < count → ys ≡ xs ++ blank n capacity ∷ []
@@ -123,3 +120,31 @@ popped_some count capacity (Some y) xs ys e h =
 pub none_home : (count capacity : ℕ) → AreHome count capacity []
 unfolding IsDistinct
 none_home count capacity = record { empty = tt; below = tt; distinct = tt }
+
+-- the numbers below one stand once in their list, and no others
+pub upto_none : (m n : ℕ) → m ≤ n → copies n (upto m) ≡ 0
+upto_none zero n h = refl
+upto_none (suc m) n h =
+    let e : copies n (upto m ++ m ∷ []) ≡ copies n (upto m) + one_if (eqb n m) = copies_last n (upto m) m in
+    let r : copies n (upto m) ≡ 0 = upto_none m n (omega arith) in
+    let d : one_if (eqb n m) ≡ 0 = ap one_if (apart n m (omega arith)) in omega arith
+  where
+    apart : (a b : ℕ) → b < a → eqb a b ≡ false
+    apart a b l = grind arith
+
+pub upto_once : (m n : ℕ) → copies n (upto m) ≤ 1
+upto_once zero n = omega arith
+upto_once (suc m) n = go (eqb n m) refl (upto_once m n)
+  where
+    go : (b : Bool) → eqb n m ≡ b → copies n (upto m) ≤ 1 → copies n (upto m ++ m ∷ []) ≤ 1
+    go true e before =
+        let c : copies n (upto m ++ m ∷ []) ≡ copies n (upto m) + one_if (eqb n m) = copies_last n (upto m) m in
+        let z : copies n (upto m) ≡ 0 = upto_none m n (same n m e) in
+        let o : one_if (eqb n m) ≤ 1 = one_most (eqb n m) in omega arith
+      where
+        same : (a b : ℕ) → eqb a b ≡ true → b ≤ a
+        same a b t = grind arith
+    go false e before =
+        let c : copies n (upto m ++ m ∷ []) ≡ copies n (upto m) + one_if (eqb n m) = copies_last n (upto m) m in
+        let z : one_if (eqb n m) ≡ 0 = ap one_if e in
+        omega arith

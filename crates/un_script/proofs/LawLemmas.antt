@@ -1,23 +1,26 @@
 -- Each line that is read leaves a ready script.
 use Rattle.std.proofs.Common.{◌≡◌, ℕ, ◌+◌, ◌<◌, Bool, true, false, ◌&&◌, ◌||◌, ◌==◌, nat_lt, not, is_some, if◌then◌else◌, List, [], ◌∷◌, ◌++◌, Option, Some, None, Result, Ok, Err, refl, subst, arith, length}
-use Rattle.std.proofs.lemmas.Bool.{and_parts}
+use Rattle.std.proofs.lemmas.Bool.{and_parts, not-true}
 use Rattle.std.proofs.lemmas.Bool.Decides.{nat_tests}
 use Rattle.std.specs.List.{list_any}
 use Rattle.std.specs.Prelude.{codes}
 use Rattle.std.specs.Result.{result_ok}
 use Rattle.std.specs.Str.{bytes_eq}
+use Rattle.un_journal.specs.TraceWords.{kind_named, words_in}
+use Rattle.un_frame.specs.Spelling.{class_named, lane_named}
+use Rattle.un_facts.specs.Results.{◌>>=◌, needs, given}
 use Rattle.hex.specs.declared.error.FromHexError.{FromHexError}
 use Rattle.hex.specs.Hex.{decode_of}
 use Rattle.un_journal.specs.declared.controls.Control.{Control as Command}
-use Rattle.un_journal.specs.Script.{Script, Frame, planned}
+use Rattle.un_journal.specs.Script.{Script, Frame, planned, frame_count}
 use Rattle.un_script.specs.declared.why.Why.{Why}
 use Rattle.un_script.specs.declared.why.Why.TheVariants.{Word, Order, Number, Range, Hex, Count, Control, Fault}
-use Rattle.un_script.specs.Words.{is_empty, is_spelled, words_of, lines_of, is_skipped}
+use Rattle.un_script.specs.Words.{is_plain, is_spelled, lines_of, is_skipped, has_no_byte}
 use Rattle.un_script.specs.Numbers.{number_of, bytes_of, byte_of}
-use Rattle.un_script.specs.Table.{class_named, lane_named, kind_named, control_named, parameter_named, place_of, is_allowed, is_filter, is_pool_size, is_sender, is_want, is_planned_serial, may_follow, with_number, CLASS_PLACE, FILTER_PLACE, REQUESTS_PLACE, BODY_PLACE, MOST_FRAMES, MOST_CONTROLS, MOST_FAULTS, defaults}
-use Rattle.un_script.specs.Parts.{HasBytes, empty_script, with_frame, frame_count, may_come}
+use Rattle.un_script.specs.Table.{control_named, parameter_named, place_of, is_allowed, is_filter, is_pool_size, is_sender, is_want, is_planned_serial, may_follow, with_number, CLASS_PLACE, FILTER_PLACE, REQUESTS_PLACE, BODY_PLACE, MOST_FRAMES, MOST_CONTROLS, MOST_FAULTS, defaults}
+use Rattle.un_script.specs.Parts.{HasBytes, empty_script, with_frame, may_come}
 use Rattle.un_script.specs.Ready.{IsReady}
-use Rattle.un_script.specs.Reading.{Reading, ◌>>=◌, needs, given, placed, now_at, class_line, number_line, filter_line, requests_line, frame_line, control_line, fault_line, due_at, unlink_named, words_read, line_read, at_line, lines_read, nothing_read, script_of}
+use Rattle.un_script.specs.Reading.{Reading, placed, now_at, class_line, number_line, filter_line, requests_line, frame_line, control_line, fault_line, due_at, unlink_named, words_read, line_read, at_line, lines_read, nothing_read, script_of}
 use Rattle.un_script.specs.Law.{ReadScriptsAreReady}
 use Rattle.un_script.proofs.Decoded.{decoded_some}
 use Rattle.un_script.proofs.Ranges.{defaults_in_range, number_in_range, filter_in_range, pools_in_range, with_pools}
@@ -147,11 +150,11 @@ not_any true b rest h = absurd (cc)
 not_any false true rest h = absurd (cc)
 not_any false false rest h = absurd (cc)
 
-third_some : (a b c : List ℕ) (words : List (List ℕ)) → list_any is_empty (a ∷ b ∷ c ∷ words) ≡ false → 0 < length c
-third_some a b [] words h = absurd (not_any (is_empty a) (is_empty b) (list_any is_empty words) h)
+third_some : (a b c : List ℕ) (words : List (List ℕ)) → list_any has_no_byte (a ∷ b ∷ c ∷ words) ≡ false → 0 < length c
+third_some a b [] words h = absurd (not_any (has_no_byte a) (has_no_byte b) (list_any has_no_byte words) h)
 third_some a b (d ∷ ds) words h = omega arith
 
-words_ready : (reading next : Reading) (words : List (List ℕ)) → list_any is_empty words ≡ false → IsReady reading.script → words_read reading words ≡ Ok next → IsReady next.script
+words_ready : (reading next : Reading) (words : List (List ℕ)) → list_any has_no_byte words ≡ false → IsReady reading.script → words_read reading words ≡ Ok next → IsReady next.script
 words_ready reading next (key ∷ a ∷ []) some ready h =
     either (bytes_eq key (codes "class")) (class_line reading a) _ next (IsReady next.script) (class_ready reading next a)
     (λ g. either (bytes_eq key (codes "filter")) (filter_line reading a) (number_line reading key a) next (IsReady next.script) (filter_ready reading next a ready) (number_ready reading next key a ready) g) h
@@ -166,15 +169,11 @@ words_ready reading next [] some ready h = absurd (cc)
 words_ready reading next (key ∷ []) some ready h = absurd (cc)
 words_ready reading next (key ∷ a ∷ b ∷ c ∷ d ∷ e ∷ rest) some ready h = absurd (cc)
 
-not_true : (b : Bool) → not b ≡ true → b ≡ false
-not_true false h = refl
-not_true true h = absurd (cc)
-
 line_ready : (reading next : Reading) (line : List ℕ) → IsReady reading.script → line_read reading line ≡ Ok next → IsReady next.script
 unfolding line_read
 line_ready reading next line ready h =
-    through (IsReady next.script) (needs Word (is_spelled line)) (λ _. words_read reading (words_of line)) next (λ spelled e rest.
-    words_ready reading next (words_of line) (not_true _ (and_parts _ _ (needed Word _ spelled e)).1) ready rest) h
+    through (IsReady next.script) (needs Word (is_spelled line)) (λ _. words_read reading (words_in line)) next (λ spelled e rest.
+    words_ready reading next (words_in line) (not-true _ (and_parts _ _ (needed Word _ spelled e)).1) ready rest) h
 
 abbrev end_of : Bool → ℕ → Script → Result Script (ℕ × Why)
 end_of b number script = if b then Err (number, Word) else Ok script

@@ -8,8 +8,8 @@ use Rattle.un_frame.specs.Lanes.{same_lane}
 use Rattle.un_frame.specs.declared.params.Class.TheVariants.{Ncm16}
 use Rattle.un_frame.specs.declared.params.Lane.{Lane}
 use Rattle.un_frame.specs.declared.params.Lane.TheVariants.{Outward, Inward}
-use Rattle.un_journal.specs.Script.{Frame, Feeds, Script}
-use Rattle.un_script.specs.Parts.{frame_added, with_frame, frame_count, empty_script}
+use Rattle.un_journal.specs.Script.{Frame, Feeds, Script, frame_count}
+use Rattle.un_script.specs.Parts.{frame_added, with_frame, empty_script}
 use Rattle.un_script.specs.Table.{defaults}
 use Rattle.un_script.specs.Load.{load_lane, load_sender, load_body, load_frame, is_from, load_feed, load_feeds, load_script}
 use Rattle.un_script.proofs.Readiness.{one_more}

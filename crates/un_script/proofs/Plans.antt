@@ -1,6 +1,6 @@
 -- A plan with one fault more.
 use Rattle.std.proofs.Common.{◌≡◌, ℕ, Bool, true, false, ◌&&◌, ◌==◌, if◌then◌else◌, List, [], ◌∷◌, ◌++◌, Option, Some, None, Result, Ok, Err, OnOk, OnErr, ◌⊎◌, inl, inr, refl, sym, ap, ◌∙◌, subst, arith}
-use Rattle.std.proofs.lemmas.Bool.{cases_eq}
+use Rattle.std.proofs.lemmas.Bool.{cases_eq, and_from, and_right}
 use Rattle.std.proofs.lemmas.Bool.Decides.{nat_tests}
 use Rattle.std.proofs.lemmas.Map.Lookups.{exact_unsigned}
 use Rattle.std.specs.Ordering.{nat_cmp, is_eq}
@@ -41,13 +41,6 @@ equal_only Greater h = refl
 apart : (a b : ℕ) → (a ≡ b → ⊥) → is_at (nat_cmp a) b ≡ false
 apart a b h = equal_only (nat_cmp a b) (λ e. h (exact_unsigned a b e))
 
-and_true : (b c : Bool) → b ≡ true → c ≡ true → (b && c) ≡ true
-and_true b c h k = rw (h, k) refl
-
-and_false : (b c : Bool) → c ≡ false → (b && c) ≡ false
-and_false true c h = h
-and_false false c h = refl
-
 same_lane_same : (a b : Lane) → a ≡ b → same_lane a b ≡ true
 same_lane_same Outward Outward e = refl
 same_lane_same Outward Inward e = absurd (cc)
@@ -62,10 +55,10 @@ finds_new faults fault lane old new mine finds none update serial = elim (cases_
       let test : (fault.serial == serial) ≡ true = grind (arith, nat_tests, same) in
       let free : planned_in faults lane serial ≡ None = subst (λ (k : ℕ). planned_in faults lane k ≡ None) same none in
       let found : get nat_cmp new serial ≡ Some fault.kind = subst (λ (k : ℕ). get nat_cmp new k ≡ Some fault.kind) same update.1 in
-      found ∙ sym (planned_new faults fault lane serial (and_true (same_lane fault.lane lane) (fault.serial == serial) (same_lane_same fault.lane lane mine) test) free)
+      found ∙ sym (planned_new faults fault lane serial (and_from (same_lane fault.lane lane) (fault.serial == serial) (same_lane_same fault.lane lane mine) test) free)
   | inr other ↦
       let test : (fault.serial == serial) ≡ false = grind (arith, nat_tests, other) in
-      update.2 serial (apart fault.serial serial other) ∙ finds serial ∙ sym (planned_other faults fault lane serial (and_false (same_lane fault.lane lane) (fault.serial == serial) test))
+      update.2 serial (apart fault.serial serial other) ∙ finds serial ∙ sym (planned_other faults fault lane serial (and_right (same_lane fault.lane lane) (fault.serial == serial) test))
 ]
 
 -- the other lane's map

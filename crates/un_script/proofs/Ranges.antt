@@ -2,13 +2,14 @@
 use Rattle.std.proofs.Common.{◌≡◌, ℕ, ◌≤◌, true, ◌&&◌, nat_le, refl, lit≤, arith}
 use Rattle.std.proofs.lemmas.Bool.{and_parts}
 use Rattle.std.proofs.lemmas.Bool.Decides.{nat_tests}
+use Rattle.un_facts.specs.Numbers.{is_between}
 use Rattle.un_frame.specs.declared.params.Class.{Class}
 use Rattle.un_frame.specs.declared.params.Class.TheVariants.{Ecm, Eem, Ncm16, Ncm32}
 use Rattle.un_frame.specs.declared.params.Params.{Params}
 use Rattle.un_frame.specs.Params.{AreInRange}
 use Rattle.un_script.specs.declared.table.Parameter.{Parameter}
 use Rattle.un_script.specs.declared.table.Parameter.TheVariants.{Segment, Packet, Block, Datagrams, Divisor, Remainder, Alignment}
-use Rattle.un_script.specs.Table.{defaults, within, is_allowed, is_filter, is_pool_size, with_number}
+use Rattle.un_script.specs.Table.{defaults, is_allowed, is_filter, is_pool_size, with_number}
 
 pub defaults_in_range : (class : Class) → AreInRange (defaults class)
 defaults_in_range Ecm = record { segment = (lit≤ tt, lit≤ tt); packet = refl; filter = lit≤ tt; block = (lit≤ tt, lit≤ tt); datagrams = lit≤ tt; divisor = (lit≤ tt, lit≤ tt); remainder = lit≤ tt; alignment = (lit≤ tt, lit≤ tt); tx_out = (lit≤ tt, lit≤ tt); rx_out = (lit≤ tt, lit≤ tt); tx_in = (lit≤ tt, lit≤ tt); rx_in = (lit≤ tt, lit≤ tt) }
@@ -16,7 +17,7 @@ defaults_in_range Eem = record { segment = (lit≤ tt, lit≤ tt); packet = refl
 defaults_in_range Ncm16 = record { segment = (lit≤ tt, lit≤ tt); packet = refl; filter = lit≤ tt; block = (lit≤ tt, lit≤ tt); datagrams = lit≤ tt; divisor = (lit≤ tt, lit≤ tt); remainder = lit≤ tt; alignment = (lit≤ tt, lit≤ tt); tx_out = (lit≤ tt, lit≤ tt); rx_out = (lit≤ tt, lit≤ tt); tx_in = (lit≤ tt, lit≤ tt); rx_in = (lit≤ tt, lit≤ tt) }
 defaults_in_range Ncm32 = record { segment = (lit≤ tt, lit≤ tt); packet = refl; filter = lit≤ tt; block = (lit≤ tt, lit≤ tt); datagrams = lit≤ tt; divisor = (lit≤ tt, lit≤ tt); remainder = lit≤ tt; alignment = (lit≤ tt, lit≤ tt); tx_out = (lit≤ tt, lit≤ tt); rx_out = (lit≤ tt, lit≤ tt); tx_in = (lit≤ tt, lit≤ tt); rx_in = (lit≤ tt, lit≤ tt) }
 
-pub both_ends : (low high n : ℕ) → within low high n ≡ true → (low ≤ n) × (n ≤ high)
+pub both_ends : (low high n : ℕ) → is_between low high n ≡ true → (low ≤ n) × (n ≤ high)
 both_ends low high n h = let p = and_parts (nat_le low n) (nat_le n high) h in (grind (arith, nat_tests, p.0), grind (arith, nat_tests, p.1))
 
 pub number_in_range : (p : Params) (parameter : Parameter) (n : ℕ) → AreInRange p → is_allowed p.class parameter n ≡ true → AreInRange (with_number parameter n p)

@@ -1,18 +1,19 @@
 -- A script stays ready with each part that is added.
 use Rattle.std.proofs.Common.{◌≡◌, ℕ, ◌+◌, ◌<◌, ◌≤◌, Bool, true, false, ◌==◌, if◌then◌else◌, filter, List, [], ◌∷◌, ◌++◌, Some, None, IsTrue, refl, subst, arith, length, length-append}
 use Rattle.std.proofs.lemmas.List.Elements.{All-nil, All-push, filter-append}
-use Rattle.std.proofs.lemmas.Bool.{false≢true, eqb-true, and_parts}
+use Rattle.std.proofs.lemmas.Bool.{eqb-true, and_parts}
 use Rattle.std.specs.Prelude.{All}
 use Rattle.un_frame.specs.declared.params.Lane.{Lane}
 use Rattle.un_frame.specs.declared.params.Lane.TheVariants.{Outward, Inward}
 use Rattle.un_frame.specs.declared.params.Params.{Params}
+use Rattle.un_frame.proofs.LaneLemmas.{same_lane-is}
 use Rattle.un_frame.specs.Lanes.{same_lane}
 use Rattle.un_frame.specs.Params.{AreInRange}
 use Rattle.un_journal.specs.declared.controls.Due.{Due}
 use Rattle.un_journal.specs.declared.controls.Planned.{Planned}
-use Rattle.un_journal.specs.Script.{Script, Frame, Feeds, planned, planned_in}
+use Rattle.un_journal.specs.Script.{Script, Frame, Feeds, planned, planned_in, frames_in_all, frame_count}
 use Rattle.un_script.specs.Table.{is_want, is_planned_serial, MOST_FRAMES, MOST_CONTROLS, MOST_FAULTS}
-use Rattle.un_script.specs.Parts.{no_frames, HasBytes, FeedsHaveBytes, empty_script, frame_added, frames_in_all, with_frame, frame_count, may_come, standing_from}
+use Rattle.un_script.specs.Parts.{no_frames, HasBytes, FeedsHaveBytes, empty_script, frame_added, with_frame, may_come, standing_from}
 use Rattle.un_script.specs.Ready.{IsReady, WaitsInRange, SerialInRange, is_planned_for, faults_for}
 
 nobody_ready : FeedsHaveBytes no_frames
@@ -67,12 +68,6 @@ none_for (f ∷ fs) lane serial e = go (is_planned_for lane serial f) e (none_fo
     go true found rec = absurd (cc)
     go false rest rec = rec rest
 
-lane_of : (a b : Lane) → same_lane a b ≡ true → a ≡ b
-lane_of Outward Outward e = refl
-lane_of Outward Inward e = absurd (false≢true e)
-lane_of Inward Outward e = absurd (false≢true e)
-lane_of Inward Inward e = refl
-
 -- so one more leaves it with one, and every other with what it had
 once_more : (faults : List Planned) (fault : Planned) → planned_in faults fault.lane fault.serial ≡ None → ((lane : Lane) (serial : ℕ) → faults_for faults lane serial ≤ 1)
     → (lane : Lane) (serial : ℕ) → faults_for (faults ++ fault ∷ []) lane serial ≤ 1
@@ -81,7 +76,7 @@ once_more faults fault free once lane serial = rw (filter-append (is_planned_for
     none_here : is_planned_for lane serial fault ≡ true → faults_for faults lane serial ≡ 0
     none_here e =
         let parts = and_parts (same_lane fault.lane lane) (fault.serial == serial) e in
-        none_for faults lane serial (subst (λ l. planned_in faults l serial ≡ None) (lane_of fault.lane lane parts.0) (subst (λ k. planned_in faults fault.lane k ≡ None) (eqb-true fault.serial serial parts.1) free))
+        none_for faults lane serial (subst (λ l. planned_in faults l serial ≡ None) (same_lane-is fault.lane lane parts.0) (subst (λ k. planned_in faults fault.lane k ≡ None) (eqb-true fault.serial serial parts.1) free))
 
     go : (b : Bool) → is_planned_for lane serial fault ≡ b → faults_for faults lane serial + length (if b then fault ∷ [] else []) ≤ 1
     go true e = let z : faults_for faults lane serial ≡ 0 = none_here e in omega arith

@@ -6,7 +6,7 @@ use Rattle.un_frame.specs.declared.params.Params.{Params}
 use Rattle.un_journal.specs.declared.controls.Control.{Control}
 use Rattle.un_journal.specs.declared.controls.Control.TheVariants.{Suspend, Resume, Down, Up, Unlink, Unplug}
 use Rattle.un_journal.specs.declared.controls.Due.{Due}
-use Rattle.un_journal.specs.Script.{Frame, Feeds, Script}
+use Rattle.un_journal.specs.Script.{Frame, Feeds, Script, frames_in_all}
 use Rattle.un_script.specs.declared.standing.Standing.{Standing}
 use Rattle.un_script.specs.declared.standing.Standing.TheVariants.{AtWork, AtRest, Off, Gone}
 
@@ -28,12 +28,6 @@ frame_added sender frame feeds =
 abbrev pub with_frame : Lane → ℕ → Frame → Script → Script
 with_frame Outward sender frame script = record script { outward = frame_added sender frame script.outward }
 with_frame Inward sender frame script = record script { inward = frame_added sender frame script.inward }
-
-abbrev pub frames_in_all : Feeds → ℕ
-frames_in_all feeds = length feeds.first + length feeds.second + length feeds.third + length feeds.fourth
-
-abbrev pub frame_count : Script → ℕ
-frame_count script = frames_in_all script.outward + frames_in_all script.inward
 
 -- a frame of no byte isn't one
 abbrev pub HasBytes : Frame → Type 0

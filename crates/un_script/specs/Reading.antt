@@ -1,12 +1,15 @@
 -- What a script's lines say, and why a line is refused. Each line's tests stand in the order of the reasons: word, order, number, hex, range, count, control, fault.
 use Rattle.std.specs.Prelude.{◌≡◌, ℕ, ◌+◌, Bool, ◌&&◌, ◌==◌, nat_lt, not, List, [], ◌∷◌, ◌++◌, length, codes, Option, Some, None, is_some, Result, Ok, Err, if◌then◌else◌}
 use Rattle.std.specs.Str.{bytes_eq}
+use Rattle.un_journal.specs.TraceWords.{kind_named, words_in}
+use Rattle.un_frame.specs.Spelling.{class_named, lane_named}
+use Rattle.un_facts.specs.Results.{◌>>=◌, needs, given}
 use Rattle.un_frame.specs.declared.params.Class.TheVariants.{Ecm}
 use Rattle.un_frame.specs.declared.params.Lane.{Lane}
 use Rattle.un_journal.specs.declared.controls.Control.{Control as Command}
 use Rattle.un_journal.specs.declared.controls.Control.TheVariants.{Unlink}
 use Rattle.un_journal.specs.declared.controls.Due.{Due}
-use Rattle.un_journal.specs.Script.{Script, planned}
+use Rattle.un_journal.specs.Script.{Script, planned, frame_count}
 use Rattle.un_script.specs.declared.why.Why.{Why}
 use Rattle.un_script.specs.declared.why.Why.TheVariants.{Word, Order, Number, Range, Hex, Count, Control, Fault}
 use Rattle.un_script.specs.declared.why.Refused.{Refused}
@@ -15,23 +18,10 @@ use Rattle.un_script.specs.declared.why.Refused.TheVariants.{Because}
 use Rattle.un_script.specs.declared.why.ScriptError.{ScriptError}
 use Rattle.un_script.specs.declared.why.ScriptError.TheVariants as errors
 use Rattle.un_script.specs.declared.why.ScriptError.TheVariants.{BadLine}
-use Rattle.un_script.specs.Words.{lines_of, words_of, is_skipped, is_spelled}
+use Rattle.un_script.specs.Words.{lines_of, is_skipped, is_spelled}
 use Rattle.un_script.specs.Numbers.{number_of, bytes_of, byte_of}
-use Rattle.un_script.specs.Table.{class_named, lane_named, kind_named, control_named, parameter_named, CLASS_PLACE, FILTER_PLACE, REQUESTS_PLACE, BODY_PLACE, place_of, may_follow, is_allowed, is_filter, is_pool_size, is_sender, is_want, is_planned_serial, MOST_FRAMES, MOST_CONTROLS, MOST_FAULTS, defaults, with_number}
-use Rattle.un_script.specs.Parts.{empty_script, with_frame, frame_count, where_some, may_come}
-
--- one test after another; the first that fails is the reason
-infixl 10 ◌>>=◌
-abbrev pub ◌>>=◌ : {A B : Type 0} → Result A Why → (A → Result B Why) → Result B Why
-(Ok x) >>= f = f x
-(Err why) >>= f = Err why
-
-abbrev pub needs : Why → Bool → Result (Unit {0}) Why
-needs why holds = if holds then Ok tt else Err why
-
-abbrev pub given : {X : Type 0} → Why → Option X → Result X Why
-given why (Some x) = Ok x
-given why None = Err why
+use Rattle.un_script.specs.Table.{control_named, parameter_named, CLASS_PLACE, FILTER_PLACE, REQUESTS_PLACE, BODY_PLACE, place_of, may_follow, is_allowed, is_filter, is_pool_size, is_sender, is_want, is_planned_serial, MOST_FRAMES, MOST_CONTROLS, MOST_FAULTS, defaults, with_number}
+use Rattle.un_script.specs.Parts.{empty_script, with_frame, where_some, may_come}
 
 -- what was read so far, and the place of the last line that was read, or 0
 pub record Reading : Type 0 where
@@ -146,7 +136,7 @@ words_read reading words = Err Word
 unfoldable pub line_read : Reading → List ℕ → Result Reading Why
 line_read reading line = do
   spelled ← needs Word (is_spelled line)
-  words_read reading (words_of line)
+  words_read reading (words_in line)
 
 -- THE TEXT
 

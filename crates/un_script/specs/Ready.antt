@@ -5,9 +5,9 @@ use Rattle.un_frame.specs.Lanes.{same_lane}
 use Rattle.un_frame.specs.Params.{AreInRange}
 use Rattle.un_journal.specs.declared.controls.Due.{Due}
 use Rattle.un_journal.specs.declared.controls.Planned.{Planned}
-use Rattle.un_journal.specs.Script.{Script}
+use Rattle.un_journal.specs.Script.{Script, frame_count}
 use Rattle.un_script.specs.Table.{MOST_FRAMES, MOST_CONTROLS, MOST_FAULTS, is_want, is_planned_serial}
-use Rattle.un_script.specs.Parts.{FeedsHaveBytes, frame_count, standing_of}
+use Rattle.un_script.specs.Parts.{FeedsHaveBytes, standing_of}
 
 abbrev pub WaitsInRange : Due → Type 0
 WaitsInRange due = IsTrue (is_want due.want)

@@ -1,6 +1,8 @@
 -- The words, places, ranges and counts of a script's lines, and the parameters where no line says others.
 use Rattle.std.specs.Prelude.{ℕ, Bool, ◌&&◌, ◌||◌, ◌==◌, nat_le, nat_lt, List, [], ◌∷◌, Option, Some, None, codes, if◌then◌else◌}
 use Rattle.std.specs.Str.{bytes_eq}
+use Rattle.un_facts.specs.Lists.{is_one_of}
+use Rattle.un_facts.specs.Numbers.{is_between}
 use Rattle.un_frame.specs.declared.params.Class.{Class}
 use Rattle.un_frame.specs.declared.params.Class.TheVariants.{Ecm, Eem, Ncm16, Ncm32}
 use Rattle.un_frame.specs.declared.params.Lane.{Lane}
@@ -8,31 +10,11 @@ use Rattle.un_frame.specs.declared.params.Lane.TheVariants.{Outward, Inward}
 use Rattle.un_frame.specs.declared.kinds.FaultKind.{FaultKind}
 use Rattle.un_frame.specs.declared.kinds.FaultKind.TheVariants.{Proto, Halt}
 use Rattle.un_frame.specs.declared.params.Params.{Params}
-use Rattle.un_frame.specs.Params.{is_one_of, most_block}
+use Rattle.un_frame.specs.Params.{most_block}
 use Rattle.un_journal.specs.declared.controls.Control.{Control}
 use Rattle.un_journal.specs.declared.controls.Control.TheVariants.{Suspend, Resume, Down, Up, Unlink, Unplug}
 use Rattle.un_script.specs.declared.table.Parameter.{Parameter}
 use Rattle.un_script.specs.declared.table.Parameter.TheVariants.{Segment, Packet, Block, Datagrams, Divisor, Remainder, Alignment}
-
-abbrev pub class_named : List ℕ → Option Class
-class_named word =
-    if bytes_eq word (codes "ecm") then Some Ecm
-    else (if bytes_eq word (codes "eem") then Some Eem
-    else (if bytes_eq word (codes "ncm16") then Some Ncm16
-    else (if bytes_eq word (codes "ncm32") then Some Ncm32
-    else None)))
-
-abbrev pub lane_named : List ℕ → Option Lane
-lane_named word =
-    if bytes_eq word (codes "out") then Some Outward
-    else (if bytes_eq word (codes "in") then Some Inward
-    else None)
-
-abbrev pub kind_named : List ℕ → Option FaultKind
-kind_named word =
-    if bytes_eq word (codes "proto") then Some Proto
-    else (if bytes_eq word (codes "halt") then Some Halt
-    else None)
 
 -- the controls of one word
 abbrev pub control_named : List ℕ → Option Control
@@ -86,32 +68,29 @@ may_follow last place = if last == 0 then place == CLASS_PLACE else nat_lt last 
 
 -- THE RANGES
 
-abbrev pub within : ℕ → ℕ → ℕ → Bool
-within low high n = nat_le low n && nat_le n high
-
 abbrev pub is_allowed : Class → Parameter → ℕ → Bool
-is_allowed class Segment n = within 60 8192 n
+is_allowed class Segment n = is_between 60 8192 n
 is_allowed class Packet n = is_one_of n (8 ∷ 16 ∷ 32 ∷ 64 ∷ 128 ∷ 256 ∷ 512 ∷ 1024 ∷ [])
-is_allowed class Block n = within 2048 (most_block class) n
-is_allowed class Datagrams n = within 0 1024 n
-is_allowed class Divisor n = within 1 64 n
-is_allowed class Remainder n = within 0 63 n
-is_allowed class Alignment n = within 4 64 n
+is_allowed class Block n = is_between 2048 (most_block class) n
+is_allowed class Datagrams n = is_between 0 1024 n
+is_allowed class Divisor n = is_between 1 64 n
+is_allowed class Remainder n = is_between 0 63 n
+is_allowed class Alignment n = is_between 4 64 n
 
 abbrev pub is_filter : ℕ → Bool
-is_filter n = within 0x00 0x1f n
+is_filter n = is_between 0x00 0x1f n
 
 abbrev pub is_pool_size : ℕ → Bool
-is_pool_size n = within 1 64 n
+is_pool_size n = is_between 1 64 n
 
 abbrev pub is_sender : ℕ → Bool
-is_sender n = within 0 3 n
+is_sender n = is_between 0 3 n
 
 abbrev pub is_want : ℕ → Bool
-is_want n = within 0 65536 n
+is_want n = is_between 0 65536 n
 
 abbrev pub is_planned_serial : ℕ → Bool
-is_planned_serial n = within 0 65535 n
+is_planned_serial n = is_between 0 65535 n
 
 abbrev pub MOST_FRAMES : ℕ
 MOST_FRAMES = 65536

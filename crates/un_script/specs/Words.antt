@@ -1,6 +1,7 @@
 -- Lines of a text, and words of a line.
 use Rattle.std.specs.Prelude.{ℕ, Bool, true, ◌&&◌, ◌==◌, nat_le, not, List, [], ◌∷◌, length, if◌then◌else◌}
 use Rattle.std.specs.List.{list_all, list_any}
+use Rattle.un_journal.specs.TraceWords.{onto_first, words_in}
 
 abbrev pub LINE_FEED : ℕ
 LINE_FEED = 10
@@ -8,23 +9,14 @@ LINE_FEED = 10
 abbrev pub SPACE : ℕ
 SPACE = 32
 
--- the byte at the front of the first part, or as the first part
-abbrev pub onto_first : ℕ → List (List ℕ) → List (List ℕ)
-onto_first c [] = (c ∷ []) ∷ []
-onto_first c (part ∷ parts) = (c ∷ part) ∷ parts
-
 -- The lines of a text. Each ends with a line feed, but for the last, which may; so a last line feed begins no further line.
 unfoldable pub lines_of : List ℕ → List (List ℕ)
 lines_of [] = []
 lines_of (c ∷ cs) = if c == LINE_FEED then [] ∷ lines_of cs else onto_first c (lines_of cs)
 
--- The words of a line, which stand between single spaces. A word is empty where a space stands first, last or after another.
-unfoldable pub words_of : List ℕ → List (List ℕ)
-words_of [] = [] ∷ []
-words_of (c ∷ cs) = if c == SPACE then [] ∷ words_of cs else onto_first c (words_of cs)
-
-abbrev pub is_empty : List ℕ → Bool
-is_empty word = length word == 0
+-- a word of no byte
+abbrev pub has_no_byte : List ℕ → Bool
+has_no_byte word = length word == 0
 
 -- a line that says nothing: it is empty or begins with '#'
 abbrev pub is_skipped : List ℕ → Bool
@@ -37,4 +29,4 @@ is_plain c = nat_le 0x20 c && nat_le c 0x7e
 
 -- each byte is plain, and no word is empty
 abbrev pub is_spelled : List ℕ → Bool
-is_spelled line = list_all is_plain line && not (list_any is_empty (words_of line))
+is_spelled line = list_all is_plain line && not (list_any has_no_byte (words_in line))

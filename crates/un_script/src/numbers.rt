@@ -2,14 +2,15 @@
 
 ghost use Rattle.std.specs.Prelude.{◌≡◌};
 ghost use Rattle.std.specs.List.{list_all};
-ghost use Rattle.un_script.specs.Numbers.{is_digit, number_of, byte_of};
+ghost use Rattle.un_journal.specs.TraceWords.{is_digit};
+ghost use Rattle.un_script.specs.Numbers.{number_of, byte_of};
 
 use hex::FromHex;
 
 /// Whether a zero stands before another digit.
-#[tactic(auto, using(crate::proofs::Digits::short_leading, crate::proofs::Digits::long_leading))]
+#[tactic(auto, using(un_journal::proofs::ReadNumbers::short_leading, un_journal::proofs::ReadNumbers::long_leading))]
 fn has_leading_zero(word: &[u8]) -> bool
-    ensures { result ≡ Rattle.un_script.specs.Numbers.has_leading_zero word.now }
+    ensures { result ≡ Rattle.un_journal.specs.TraceWords.has_leading_zero word.now }
 {
     if word.len() < 2 {
         return false;

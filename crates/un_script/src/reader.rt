@@ -1,10 +1,11 @@
 //! A script from its text.
 
 ghost use Rattle.std.specs.Prelude.{◌≡◌, ◌<◌, ◌∷◌, [], Err, IfOk, length};
+ghost use Rattle.un_facts.specs.Results.{given};
 ghost use Rattle.un_script.specs.declared.why.Refused.TheVariants.{Because};
 ghost use Rattle.un_script.specs.declared.why.Why.TheVariants.{Hex};
 ghost use Rattle.un_script.specs.Numbers.{bytes_of};
-ghost use Rattle.un_script.specs.Reading.{Gives, ReadGives, given, now_at, class_line, number_line, filter_line, requests_line, frame_line, control_line, fault_line, words_read, line_read, script_of};
+ghost use Rattle.un_script.specs.Reading.{Gives, ReadGives, now_at, class_line, number_line, filter_line, requests_line, frame_line, control_line, fault_line, words_read, line_read, script_of};
 
 use crate::lines::{cut_line, cut_word, is_skipped, is_spelled};
 use crate::numbers::{byte, number};

@@ -2,8 +2,8 @@
 
 ghost use Rattle.std.specs.Prelude.{◌≡◌, ◌<◌, ◌≤◌, ◌∷◌, ◌++◌, [], None, Some, length, OnOk, OnErr, IsTrue, MatchOption, slice_get, unwrap_or};
 ghost use Rattle.un_frame.specs.Params.{AreInRange};
-ghost use Rattle.un_journal.specs.Script.{planned, frames_of, feed_list};
-ghost use Rattle.un_script.specs.Parts.{empty_script, no_frames, frame_added, with_frame, frame_count, standing_of, may_come};
+ghost use Rattle.un_journal.specs.Script.{planned, frames_of, feed_list, frame_count};
+ghost use Rattle.un_script.specs.Parts.{empty_script, no_frames, frame_added, with_frame, standing_of, may_come};
 ghost use Rattle.un_script.specs.Ready.{IsReady};
 ghost use Rattle.un_script.specs.Table.{is_sender, is_want, is_planned_serial, MOST_FRAMES, MOST_CONTROLS, MOST_FAULTS};
 
@@ -100,7 +100,8 @@ impl Model for Script {
 
     ghost Value = { ScriptData };
 
-    ghost use Rattle.un_script.specs.Parts.{standing_of, frames_in_all};
+    ghost use Rattle.un_journal.specs.Script.{frames_in_all};
+    ghost use Rattle.un_script.specs.Parts.{standing_of};
     ghost use Rattle.un_script.specs.Ready.{IsReady};
 
     ghost view = { λ s. record { params = s.params; outward = s.outward; inward = s.inward; controls = s.controls.items; faults = s.faults } };
@@ -152,7 +153,7 @@ impl Script {
 
     /// How many frames there are, in both lanes together.
     pub fn frame_count(&self) -> u32
-        ensures { result ≡ Rattle.un_script.specs.Parts.frame_count self.now }
+        ensures { result ≡ Rattle.un_journal.specs.Script.frame_count self.now }
     {
         self.frames
     }

@@ -2,8 +2,10 @@
 
 ghost use Rattle.std.specs.Prelude.{◌≡◌, ◌<◌, ◌^◌, IsTrue};
 ghost use Rattle.std.specs.Str.{bytes_eq};
+ghost use Rattle.un_journal.specs.TraceWords.{kind_named};
+ghost use Rattle.un_frame.specs.Spelling.{class_named, lane_named};
 ghost use Rattle.un_frame.specs.Params.{most_block};
-ghost use Rattle.un_script.specs.Table.{class_named, lane_named, kind_named, control_named, parameter_named, place_of, may_follow, is_allowed, is_filter, is_pool_size, with_number, defaults};
+ghost use Rattle.un_script.specs.Table.{control_named, parameter_named, place_of, may_follow, is_allowed, is_filter, is_pool_size, with_number, defaults};
 ghost use Rattle.un_script.specs.Reading.{unlink_named};
 
 use un_frame::{Class, FaultKind, Lane, Params};
@@ -30,7 +32,7 @@ pub fn is(word: &[u8], name: &[u8]) -> bool
 
 /// The class of a word.
 pub fn class_named(word: &[u8]) -> Option<Class>
-    ensures { result ≡ Rattle.un_script.specs.Table.class_named word.now }
+    ensures { result ≡ Rattle.un_frame.specs.Spelling.class_named word.now }
 {
     if is(word, b"ecm") {
         Some(Class::Ecm)
@@ -47,7 +49,7 @@ pub fn class_named(word: &[u8]) -> Option<Class>
 
 /// The lane of a word.
 pub fn lane_named(word: &[u8]) -> Option<Lane>
-    ensures { result ≡ Rattle.un_script.specs.Table.lane_named word.now }
+    ensures { result ≡ Rattle.un_frame.specs.Spelling.lane_named word.now }
 {
     if is(word, b"out") {
         Some(Lane::Outward)
@@ -60,7 +62,7 @@ pub fn lane_named(word: &[u8]) -> Option<Lane>
 
 /// The kind of a planned fault.
 pub fn kind_named(word: &[u8]) -> Option<FaultKind>
-    ensures { result ≡ Rattle.un_script.specs.Table.kind_named word.now }
+    ensures { result ≡ Rattle.un_journal.specs.TraceWords.kind_named word.now }
 {
     if is(word, b"proto") {
         Some(FaultKind::Proto)

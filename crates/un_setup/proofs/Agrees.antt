@@ -1,8 +1,10 @@
 -- Where the tests pass, the parameters agree, and where they don't, not.
 use Rattle.std.proofs.Common.{◌≡◌, ℕ, ◌<◌, Bool, true, false, nat_lt, ◌&&◌, [], ◌∷◌, Ok, Err, refl, arith}
 use Rattle.std.proofs.lemmas.Bool.Decides.{nat_tests}
+use Rattle.std.proofs.lemmas.Bool.{and_from, and_parts}
+use Rattle.un_facts.specs.Lists.{is_one_of}
 use Rattle.un_frame.specs.Ntb.{Format, ntb16, ntb32}
-use Rattle.un_frame.specs.Params.{AgreeAs, BlocksAgree, is_one_of}
+use Rattle.un_frame.specs.Params.{AgreeAs, BlocksAgree}
 use Rattle.un_frame.specs.declared.params.Params.{Params}
 use Rattle.un_frame.specs.declared.params.Class.{Class}
 use Rattle.un_frame.specs.declared.params.Class.TheVariants.{Ecm, Eem, Ncm16, Ncm32}
@@ -22,16 +24,9 @@ all_pass true true false e f g d h i j k = cc
 all_pass true false c e f g d h i j k = cc
 all_pass false b c e f g d h i j k = cc
 
-and_split : (a b : Bool) → (a && b) ≡ true → (a ≡ true) × (b ≡ true)
-and_split true b e = (refl, e)
-and_split false b e = cc
-
-and_join : (a b : Bool) → a ≡ true → b ≡ true → (a && b) ≡ true
-and_join a b h k = rw (h, k) refl
-
 divisor_is : (p : Params) → has_divisor p ≡ true → (is_one_of p.divisor (1 ∷ 2 ∷ 4 ∷ 8 ∷ 16 ∷ 32 ∷ 64 ∷ []) ≡ true) × (p.remainder < p.divisor)
 divisor_is p e =
-    let s = and_split (is_one_of p.divisor (1 ∷ 2 ∷ 4 ∷ 8 ∷ 16 ∷ 32 ∷ 64 ∷ [])) (nat_lt p.remainder p.divisor) e in
+    let s = and_parts (is_one_of p.divisor (1 ∷ 2 ∷ 4 ∷ 8 ∷ 16 ∷ 32 ∷ 64 ∷ [])) (nat_lt p.remainder p.divisor) e in
     let below : nat_lt p.remainder p.divisor ≡ true = s.1 in
     (s.0, grind (arith, nat_tests))
 
@@ -54,7 +49,7 @@ blocks_fail : (f : Format) (p : Params) (e : SetupFault) → blocks_tested f p �
 unfolding blocks_tested
 blocks_fail f p e h agree =
     let below : nat_lt p.remainder p.divisor ≡ true = grind (arith, nat_tests, agree.remainder) in
-    let divisor : has_divisor p ≡ true = and_join _ _ agree.divisor below in
+    let divisor : has_divisor p ≡ true = and_from _ _ agree.divisor below in
     let one : holds_one f p ≡ true = grind (arith, nat_tests, agree.largest) in
     all_pass (has_divisor p) (has_alignment p) (holds_one f p) _ _ _ e h divisor agree.alignment one
 

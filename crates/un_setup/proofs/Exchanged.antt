@@ -3,6 +3,8 @@ use Rattle.std.proofs.Common.{◌≡◌, ℕ, zero, suc, ◌+◌, ◌^◌, ◌<�
 use Rattle.std.proofs.Math.Seq.{take-suc}
 use Rattle.std.proofs.lemmas.Bool.Decides.{nat_tests}
 use Rattle.std.proofs.lemmas.List.{take-append-drop}
+use Rattle.un_facts.specs.Results.{◌>>=◌}
+use Rattle.un_facts.specs.Numbers.{is_between}
 use Rattle.byteorder.specs.Numbers.{little_number-reads_back}
 use Rattle.un_frame.specs.Bytes.{number_at, number_bytes}
 use Rattle.un_frame.specs.Params.{AreInRange}
@@ -15,9 +17,9 @@ use Rattle.un_desc.specs.Configuration.{configuration, configuration_as}
 use Rattle.un_classreq.specs.declared.state.State.{State}
 use Rattle.un_classreq.specs.declared.request.Classes.TheVariants.{EcmAndNcm, NcmAlone}
 use Rattle.un_classreq.specs.declared.device.Why.{Why}
-use Rattle.un_classreq.specs.Requests.{ntb_parameters, last_format, is_between}
+use Rattle.un_classreq.specs.Requests.{ntb_parameters, last_format}
 use Rattle.un_classreq.specs.Notes.{notes_as, notes_of}
-use Rattle.un_classreq.specs.Control.{◌>>=◌, Gadget, Controlled, controlled, judged, named, has_length, serves, first_state, first_gadget}
+use Rattle.un_classreq.specs.Control.{Gadget, Controlled, controlled, judged, named, has_length, serves, first_state, first_gadget}
 use Rattle.un_setup.specs.declared.exchange.Exchange.{Exchange}
 use Rattle.un_setup.specs.declared.exchange.ExchangeFault.{ExchangeFault}
 use Rattle.un_setup.specs.declared.exchange.ExchangeFault.TheVariants.{Stalled, NoMemory}

@@ -1,8 +1,9 @@
 -- What a set-up agrees on, and why there is no agreement.
 use Rattle.std.specs.Prelude.{◌≡◌, ◌+◌, Bool, ◌&&◌, List, [], ◌∷◌, nat_lt, nat_le, if◌then◌else◌, Result, Ok, Err}
+use Rattle.un_facts.specs.Lists.{is_one_of}
 use Rattle.un_frame.specs.Ntb.{Format, ntb16, ntb32}
 use Rattle.un_frame.specs.NtbForm.{closed_size, datagram_place}
-use Rattle.un_frame.specs.Params.{Agree, is_one_of, layout_of}
+use Rattle.un_frame.specs.Params.{Agree, layout_of}
 use Rattle.un_frame.specs.declared.params.Params.{Params}
 use Rattle.un_frame.specs.declared.params.Class.{Class}
 use Rattle.un_frame.specs.declared.params.Class.TheVariants.{Ecm, Eem, Ncm16, Ncm32}

@@ -1,6 +1,7 @@
 -- The set-up of a link: which requests the host sends, in order, and what crosses the bus with each. The order is this
 -- project's own.
 use Rattle.std.specs.Prelude.{◌≡◌, ◌≤◌, ℕ, List, [], ◌∷◌, length, take, map, if◌then◌else◌, Result, Ok, Err}
+use Rattle.un_facts.specs.Results.{◌>>=◌}
 use Rattle.un_frame.specs.Bytes.{number_bytes}
 use Rattle.un_frame.specs.declared.params.Params.{Params}
 use Rattle.un_frame.specs.declared.params.Class.{Class}
@@ -10,7 +11,7 @@ use Rattle.un_classreq.specs.declared.setup.Setup.{Setup}
 use Rattle.un_classreq.specs.declared.device.Why.{Why}
 use Rattle.un_classreq.specs.Requests.{ntb_parameters}
 use Rattle.un_classreq.specs.Setup.{packet}
-use Rattle.un_classreq.specs.Control.{◌>>=◌, Gadget, controlled, first_gadget, first_state, is_from_device}
+use Rattle.un_classreq.specs.Control.{Gadget, controlled, first_gadget, first_state, is_from_device}
 use Rattle.un_classreq.specs.Notes.{notes_as, notes_of}
 use Rattle.un_classreq.specs.declared.state.State.{State}
 use Rattle.un_setup.specs.declared.exchange.Exchange.{Exchange}

@@ -1,9 +1,10 @@
 //! Whether the parameters of a link agree.
 
 ghost use Rattle.std.specs.Prelude.{◌≡◌, ◌+◌, ◌<◌, ◌≤◌, ◌∷◌, [], OnOk};
+ghost use Rattle.un_facts.specs.Lists.{is_one_of};
 ghost use Rattle.un_frame.specs.Ntb.{Format};
 ghost use Rattle.un_frame.specs.NtbForm.{datagram_place};
-ghost use Rattle.un_frame.specs.Params.{AreInRange, is_one_of, layout_of};
+ghost use Rattle.un_frame.specs.Params.{AreInRange, layout_of};
 ghost use Rattle.un_setup.specs.Agreement.{blocks_tested, has_alignment, has_divisor, holds_one, tested_as};
 
 use crate::agreement::SetupFault;

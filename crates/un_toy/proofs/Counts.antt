@@ -1,10 +1,10 @@
 -- The lines of a kind after one line more.
 use Rattle.std.proofs.Common.{◌≡◌, ℕ, ◌+◌, ◌<◌, Bool, true, false, nat_lt, [], ◌∷◌, ◌++◌, if◌then◌else◌, refl, ap, ◌∙◌, arith}
+use Rattle.un_facts.specs.Numbers.{one_if}
 use borrow.Author.Tests.{ltb-true}
 use Rattle.un_journal.specs.declared.machine.Flight.{Flight}
 use Rattle.un_journal.specs.Flights.{times}
 use Rattle.un_journal.specs.declared.lines.Line.{Line}
-use Rattle.un_journal.specs.Census.{one_if}
 use Rattle.un_journal.specs.History.{Entry, History}
 use Rattle.un_toy.specs.Queue.{count_of, flight, flights_of}
 use Rattle.un_turn.proofs.Sums.{sum-snoc}

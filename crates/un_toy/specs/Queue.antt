@@ -1,5 +1,6 @@
 -- A queue by its number of items and its history, for tests of the turn.
 use Rattle.std.specs.Prelude.{ℕ, ◌+◌, Bool, true, false, ◌&&◌, nat_lt, nat_le, List, [], ◌∷◌, if◌then◌else◌}
+use Rattle.un_facts.specs.Numbers.{one_if}
 use Rattle.un_frame.specs.declared.params.Lane.{Lane}
 use Rattle.un_frame.specs.declared.params.Lane.TheVariants.{Outward, Inward}
 use Rattle.un_journal.specs.declared.actions.Action.{Action}
@@ -10,7 +11,6 @@ use Rattle.un_journal.specs.declared.got.Got.TheVariants.{Part, Not}
 use Rattle.un_journal.specs.declared.lines.Line.{Line}
 use Rattle.un_journal.specs.declared.machine.Flight.{Flight}
 use Rattle.un_journal.specs.declared.machine.Transfer.{Transfer}
-use Rattle.un_journal.specs.Census.{one_if}
 use Rattle.un_journal.specs.Flights.{total_of}
 use Rattle.un_journal.specs.History.{Entry, History}
 

@@ -1,7 +1,7 @@
 -- Lists of flights.
 use Rattle.std.proofs.Common.{◌≡◌, ℕ, ◌+◌, ◌<◌, ◌≤◌, Bool, true, false, List, [], ◌∷◌, ◌++◌, cond, if◌then◌else◌, refl, ap, arith}
+use Rattle.un_facts.specs.Numbers.{one_if}
 use Rattle.un_journal.specs.declared.machine.Flight.{Flight}
-use Rattle.un_journal.specs.Census.{one_if}
 use Rattle.un_journal.specs.Flights.{times, same_flight, Loses}
 use Rattle.un_journal.proofs.Flights.{same_flight-is, same_flight-refl}
 

@@ -1,5 +1,6 @@
 -- What a guard keeps, from the exchange that wins on.
 use Rattle.std.proofs.Common.{◌≡◌, ℕ, ◌+◌, ◌<◌, ◌≤◌, Bool, true, false, List, [], ◌∷◌, ◌++◌, get_or, Option, Some, None, refl, sym, ap, ◌∙◌, subst, inl, inr, arith}
+use Rattle.un_facts.specs.Numbers.{one_if}
 use Rattle.atomic_table.specs.Table.{rest}
 use Rattle.un_journal.specs.History.{History}
 use Rattle.un_journal.specs.declared.machine.Flight.{Flight}
@@ -7,7 +8,6 @@ use Rattle.un_journal.specs.declared.machine.Transfer.{Transfer}
 use Rattle.un_journal.specs.declared.got.Got.{Got}
 use Rattle.un_journal.specs.declared.got.Got.TheVariants.{Part, Cut, Not}
 use Rattle.un_turn.specs.declared.view.View.{View}
-use Rattle.un_journal.specs.Census.{one_if}
 use Rattle.un_journal.specs.Flights.{times, same_flight, Gains, Loses, Takes}
 use Rattle.un_turn.specs.Views.{StartsWith, MovesOne, IsKept}
 use Rattle.un_turn.specs.Steps.{Sat, Won, entered}

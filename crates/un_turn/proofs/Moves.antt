@@ -1,5 +1,6 @@
 -- Each step keeps the rule of the turn.
 use Rattle.std.proofs.Common.{◌≡◌, ◌≢◌, ◌⊎◌, ℕ, zero, suc, ◌+◌, ◌-◌, ◌<◌, ◌≤◌, Bool, true, false, List, [], ◌∷◌, ◌++◌, length, set, get_or, cond, nat_lt, eqb, eqb-true, eq-eqb, ◌&&◌, Option, Some, refl, sym, ap, ◌∙◌, subst, ⊎_elim, inl, inr, arith, length-set, append_assoc, length-append}
+use Rattle.un_facts.specs.Numbers.{one_if}
 use mathlib.Core.Option.{some, none, some-injective, some-ne-none}
 use lib.ListN.{get_elem?}
 use lib.Seq.{set-get_or}
@@ -10,7 +11,6 @@ use Rattle.atomic_table.proofs.Lists.{at_set, at_snoc, set_here, set_else, excha
 use Rattle.un_journal.specs.History.{History}
 use Rattle.un_turn.specs.declared.view.View.{View}
 use Rattle.un_journal.specs.declared.machine.Flight.{Flight}
-use Rattle.un_journal.specs.Census.{one_if}
 use Rattle.un_journal.specs.Flights.{total_of, times}
 use Rattle.un_turn.specs.Views.{Follows}
 use Rattle.un_turn.specs.Views.{StartsWith, IsKept}

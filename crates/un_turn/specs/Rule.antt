@@ -1,10 +1,10 @@
 -- The rule of the turn: what holds of the word, of the slot while it is at home, and of the views of all seats, between any two steps.
 use Rattle.std.specs.Prelude.{◌≡◌, ◌≢◌, ℕ, ◌<◌, ◌≤◌, ◌⊎◌, true, false, List, [], ◌∷◌, Option, Some, length}
+use Rattle.un_facts.specs.Numbers.{one_if}
 use mathlib.Core.Option.{some}
 use lib.ListN.{get_elem?}
 use Rattle.atomic_table.specs.Table.{State}
 use Rattle.un_journal.specs.declared.machine.Flight.{Flight}
-use Rattle.un_journal.specs.Census.{one_if}
 use Rattle.un_journal.specs.Flights.{total_of, times}
 use Rattle.un_journal.specs.History.{History}
 use Rattle.un_turn.specs.declared.view.View.{View}

@@ -1,8 +1,8 @@
 //! Guards: the right to work on the machine.
 
 ghost use Rattle.std.specs.Prelude.{◌≡◌, ◌++◌, ℕ, ◌<◌, true, false, []};
+ghost use Rattle.un_facts.specs.Numbers.{one_if};
 ghost use Rattle.un_journal.specs.Flights.{times, Takes, Loses};
-ghost use Rattle.un_journal.specs.Census.{one_if};
 ghost use Rattle.un_turn.specs.Steps.{left};
 ghost use Rattle.un_turn.specs.Views.{Follows};
 

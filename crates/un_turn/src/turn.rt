@@ -1,7 +1,7 @@
 //! The turn.
 
 ghost use Rattle.std.specs.Prelude.{◌≡◌, ℕ, ◌<◌, false, [], ◌∷◌, IfOk, MatchResult, Some};
-ghost use Rattle.un_journal.specs.Census.{one_if};
+ghost use Rattle.un_facts.specs.Numbers.{one_if};
 ghost use Rattle.un_turn.specs.Steps.{opening_view, entered, lost, left, split_left, split_right, joined};
 ghost use Rattle.un_turn.specs.Views.{IsKept, IsOut, Follows, LostMore, StartsWith};
 

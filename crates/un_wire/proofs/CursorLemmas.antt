@@ -9,18 +9,12 @@ use Rattle.un_frame.specs.Bytes.{slice_at}
 use Rattle.un_frame.specs.Laws.{PartsAreTheFrames, ReadingIsOne}
 use Rattle.un_frame.specs.Parts.{datagram_of}
 use Rattle.un_frame.specs.Wire.{Reads}
-use Rattle.un_frame.proofs.PartLemmas.{ecm_parts, eem_parts, ncm16_parts, ncm32_parts}
+use Rattle.un_frame.proofs.PartLemmas.{parts_are_frames as class_parts}
 use Rattle.un_frame.proofs.WireLemmas.{ecm_one, eem_one, ncm16_one, ncm32_one}
 use Rattle.un_wire.specs.declared.cursor.Cursor.{Cursor}
 use Rattle.un_wire.specs.Cursors.{IsAt, parts_of, part_count, part_index}
 use Rattle.un_wire.specs.Laws.{PartsAreFrames, CountsAreParts, ReadingsAreOne}
 use Rattle.un_wire.specs.Places.{IsFirst, IsSoundAt, class_at, commands_in, parts_at}
-
-places_are : (class : Class) → PartsAreTheFrames class
-places_are Ecm = ecm_parts
-places_are Eem = eem_parts
-places_are Ncm16 = ncm16_parts
-places_are Ncm32 = ncm32_parts
 
 reading_one : (class : Class) → ReadingIsOne class
 reading_one Ecm = ecm_one
@@ -31,7 +25,7 @@ reading_one Ncm32 = ncm32_one
 -- the parts are the frames that are read
 pub parts_read : (class : Class) (bytes : List ℕ) (frames : List (List ℕ)) (commands : ℕ) → Reads class bytes frames commands → parts_of class bytes ≡ frames
 unfolding parts_of
-parts_read class bytes frames commands r = ap (map (slice_at bytes)) (places_are class bytes r.places commands r.found) ∙ sym r.sliced
+parts_read class bytes frames commands r = ap (map (slice_at bytes)) (class_parts class bytes r.places commands r.found) ∙ sym r.sliced
 
 pub readings_are_one : ReadingsAreOne
 readings_are_one class bytes frames others commands more r s =

@@ -2,6 +2,7 @@
 use Rattle.std.proofs.Common.{◌≡◌, ℕ, ◌+◌, ◌≤◌, ◌==◌, Bool, true, false, if◌then◌else◌, List, [], ◌∷◌, ◌++◌, length, map, Option, Some, None, option_to_list, unwrap_or, refl, sym, ap, ◌∙◌, arith, append-nil, length-append}
 use Rattle.std.proofs.lemmas.List.{length-map}
 use Rattle.std.specs.List.{concat}
+use Rattle.un_frame.proofs.FrameLemmas.{padded-short}
 use Rattle.un_frame.specs.declared.params.Class.{Class}
 use Rattle.un_frame.specs.declared.params.Class.TheVariants.{Ecm, Eem, Ncm16, Ncm32}
 use Rattle.un_frame.specs.declared.params.Params.{Params}
@@ -63,15 +64,11 @@ eem_room p held bytes is fits left =
     let capacity = ap (λ (class : Class). capacity_as class p) is in
     omega (arith, whole, long, capacity, fits)
 
-ended : (packets : List ℕ) (b : Bool) → length (packets ++ (if b then packet_bytes Empty else [])) ≤ length packets + 2
-ended packets true = simp (length-append, length-number_bytes) (omega arith)
-ended packets false = simp length-append (omega arith)
-
 pub eem_within : (p : Params) (held : Option ℕ) (bytes closed : List ℕ) (b : Bool) → p.class ≡ Eem → unwrap_or held 0 ≤ p.segment → ((frames : List (List ℕ)) × IsOpen p (option_to_list held) bytes frames)
     → closed ≡ bytes ++ (if b then packet_bytes Empty else []) → length closed ≤ capacity_of p
 eem_within p held bytes closed b is fits left same =
     let room = eem_room p held bytes is fits left in
-    let long = ended bytes b in
+    let long = padded-short bytes b in
     let whole = ap (λ (xs : List ℕ). length xs) same in
     omega (arith, room, long, whole)
 

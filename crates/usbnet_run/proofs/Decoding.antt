@@ -8,7 +8,7 @@ use Rattle.un_frame.specs.declared.params.Class.TheVariants.{Ecm, Eem, Ncm16, Nc
 use Rattle.un_frame.specs.Bytes.{AreBytes}
 use Rattle.un_frame.specs.Laws.{FaultIsExact}
 use Rattle.un_frame.specs.Wire.{fault_of}
-use Rattle.un_frame.proofs.WireLemmas.{ecm_exact, eem_is_exact, ncm16_exact, ncm32_exact}
+use Rattle.un_frame.proofs.WireLemmas.{ecm_exact, eem_is_exact, ncm16_exact, ncm32_exact, fault_is_exact}
 use Rattle.un_io.specs.Io.{Stopped}
 use Rattle.un_io.proofs.Known.{Stopped-more}
 use Rattle.un_journal.specs.Wrote.{Wrote}
@@ -17,17 +17,11 @@ use Rattle.usbnet_run.specs.Decode.{IsOutside, bad_transfer_line, commands_text,
 
 -- THE FIRST FAULT
 
-exact : (class : Class) → FaultIsExact class
-exact Ecm = ecm_exact
-exact Eem = eem_is_exact
-exact Ncm16 = ncm16_exact
-exact Ncm32 = ncm32_exact
-
 some_none : (found : Option Fault) (fault : Fault) → found ≡ Some fault → found ≡ None → ⊥
 some_none found fault some none = cc
 
 pub outside : (class : Class) (bytes : List ℕ) (fault : Fault) → AreBytes bytes → fault_of class bytes ≡ Some fault → IsOutside class bytes
-outside class bytes fault small is frames commands r = some_none (fault_of class bytes) fault is ((exact class bytes small).1 (r.places, commands, r.found))
+outside class bytes fault small is frames commands r = some_none (fault_of class bytes) fault is ((fault_is_exact class bytes small).1 (r.places, commands, r.found))
 
 -- its line, word by word
 pub fault_line : (a b c d e word : List ℕ) (fault : Fault) → a ≡ [] → b ≡ a ++ codes "bad transfer" → word ≡ kind_word fault.kind → c ≡ b ++ 32 ∷ word

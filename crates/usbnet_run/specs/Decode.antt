@@ -1,6 +1,7 @@
 -- The command decode: the text of a decoded transfer, the line of a refused one, and how it ends.
 use Rattle.std.specs.Prelude.{◌≡◌, ℕ, ◌+◌, List, [], ◌∷◌, ◌++◌, length, codes, decimal, Option, Some}
 use Rattle.std.specs.Io.KnownBytes.{Appends}
+use Rattle.un_frame.specs.Spelling.{class_word}
 use Rattle.hex.specs.Hex.{encode_lower}
 use Rattle.un_frame.specs.declared.fault.Fault.{Fault}
 use Rattle.un_frame.specs.declared.fault.Kind.{Kind}
@@ -9,7 +10,6 @@ use Rattle.un_frame.specs.declared.params.Class.{Class}
 use Rattle.un_frame.specs.Wire.{Reads, fault_of}
 use Rattle.un_io.specs.Io.{Stopped}
 use Rattle.usbnet_run.specs.Refusals.{Tells}
-use Rattle.usbnet_run.specs.Words.{class_word}
 
 -- the word of a fault's kind
 abbrev pub kind_word : Kind → List ℕ

@@ -1,6 +1,7 @@
 -- What the program is asked to do, by the words after its name.
 use Rattle.std.specs.Prelude.{ℕ, List, [], ◌∷◌, codes, Option, Some, None, ◌&&◌, nat_le, if◌then◌else◌}
 use Rattle.std.specs.Str.{bytes_eq}
+use Rattle.un_frame.specs.Spelling.{class_named}
 use Rattle.un_frame.specs.declared.params.Class.{Class}
 use Rattle.un_frame.specs.declared.params.Class.TheVariants.{Ecm, Eem, Ncm16, Ncm32}
 use Rattle.usbnet_run.specs.declared.words.Command.{Command}
@@ -8,22 +9,6 @@ use Rattle.usbnet_run.specs.declared.words.Command.TheVariants.{Serial, Decode}
 use Rattle.usbnet_run.specs.declared.words.Job.{Job}
 use Rattle.usbnet_run.specs.declared.words.Job.TheVariants.{Run, Load, Plain}
 use Rattle.un_script.specs.Numbers.{number_of}
-
--- the word of a class
-abbrev pub class_word : Class → List ℕ
-class_word Ecm = codes "ecm"
-class_word Eem = codes "eem"
-class_word Ncm16 = codes "ncm16"
-class_word Ncm32 = codes "ncm32"
-
--- the class of a word
-abbrev pub class_named : List ℕ → Option Class
-class_named word =
-    if bytes_eq word (codes "ecm") then Some Ecm
-    else (if bytes_eq word (codes "eem") then Some Eem
-    else (if bytes_eq word (codes "ncm16") then Some Ncm16
-    else (if bytes_eq word (codes "ncm32") then Some Ncm32
-    else None)))
 
 -- decode a transfer of a class
 abbrev pub decode_of : Option Class → Option Command

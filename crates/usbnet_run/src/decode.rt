@@ -28,7 +28,7 @@ const WORDS: usize = 64;
 
 /// The word of a class.
 fn class_word(class: Class) -> &'static [u8]
-    ensures word { result.now ≡ Words.class_word class }
+    ensures word { result.now ≡ Rattle.un_frame.specs.Spelling.class_word class }
     ensures short { length result.now ≤ 5 }
 {
     match class {

@@ -29,7 +29,7 @@ pub enum Job {
 
 /// The class of a word.
 fn class_named(word: &String) -> Option<Class>
-    ensures { result ≡ Words.class_named (string_bytes word.now) }
+    ensures { result ≡ Rattle.un_frame.specs.Spelling.class_named (string_bytes word.now) }
 {
     let word = word.as_bytes();
     if word == b"ecm".as_slice() {

@@ -1,7 +1,8 @@
 //! Where a datagram stands.
 
 ghost use Rattle.std.specs.Prelude.{◌≡◌, ◌<◌, ◌≤◌, ◌+◌, ◌-◌};
-ghost use Rattle.un_journal.specs.Census.{NamesPlace, census, nowhere, one_if, total};
+ghost use Rattle.un_facts.specs.Numbers.{one_if};
+ghost use Rattle.un_journal.specs.Census.{NamesPlace, census, nowhere, total};
 ghost use Rattle.un_journal.specs.History.{gave, past, taken};
 ghost use Rattle.un_link.specs.Counts.{gives, in_path};
 

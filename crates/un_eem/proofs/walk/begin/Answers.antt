@@ -1,4 +1,4 @@
-use Rattle.std.proofs.Common.{◌≡◌, List, ℕ, arith, subst, sym}
+use Rattle.std.proofs.Common.{List, ℕ, arith, subst, sym}
 use Rattle.un_frame.specs.Wire.{Reads}
 use Rattle.un_frame.specs.declared.params.Class.TheVariants.{Eem}
 use Rattle.un_eem.specs.Frames.{commands_of}

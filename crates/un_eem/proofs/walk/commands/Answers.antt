@@ -1,4 +1,4 @@
-use Rattle.std.proofs.Common.{◌≡◌, ◌+◌, ℕ, zero-add, sym, ap, ◌∙◌, arith}
+use Rattle.std.proofs.Common.{◌+◌, ℕ, zero-add, sym, ap, ◌∙◌, arith}
 use Rattle.un_frame.specs.Eem.{command_count}
 use Rattle.un_eem.specs.Walk.{packets_from}
 use Rattle.un_eem.proofs.FrameSteps.{commands_on}

@@ -1,4 +1,4 @@
-use Rattle.std.proofs.Common.{◌≡◌, ◌+◌, ◌-◌, length, take, drop, ap, ◌∙◌, arith, length-take, length-drop}
+use Rattle.std.proofs.Common.{ap, ◌∙◌, arith, length-take, length-drop}
 use Rattle.un_frame.specs.Eem.{is_data}
 use Rattle.un_eem.proofs.Lending.{two_left, packet_left, least_data, size_of_data, shows_data}
 use Rattle.un_eem.proofs.walk.frame_at.Goals as goal

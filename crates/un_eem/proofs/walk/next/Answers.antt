@@ -1,4 +1,4 @@
-use Rattle.std.proofs.Common.{◌≡◌, List, ℕ, drop, sym, ap, ◌∙◌}
+use Rattle.std.proofs.Common.{List, ℕ, drop, sym, ap, ◌∙◌}
 use Rattle.un_eem.proofs.FrameSteps.{frames_end, frames_on}
 use Rattle.un_eem.proofs.walk.next.Goals as goal
 

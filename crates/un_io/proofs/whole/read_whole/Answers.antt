@@ -1,4 +1,4 @@
-use Rattle.std.proofs.Common.{rules, ℕ, List, ◌≤◌, ◌+◌, ◌-◌, ◌<◌, ◌≡◌, ◌++◌, length, take, arith, sym, ◌∙◌, ap, length-append, length-take, vec_len, min}
+use Rattle.std.proofs.Common.{rules, ◌≤◌, ◌<◌, ◌≡◌, length, take, arith, vec_len}
 use Rattle.std.proofs.lemmas.Grind.{common_steps}
 use Rattle.un_io.proofs.Known.{Consumes-then}
 use Rattle.un_io.proofs.OneMore.{failed_more, within_room, one_too_many}

@@ -1,7 +1,8 @@
 use Rattle.std.proofs.Common.{rules, arith, ◌≤◌, length}
 use Rattle.std.proofs.lemmas.Option.{slice_get_within}
+use Rattle.un_facts.proofs.Lists.{none_past}
 use Rattle.un_journal.specs.Script.{frames_of}
-use Rattle.un_link.proofs.Rooms.{feed_more, feed_all, none_past, feed_few}
+use Rattle.un_link.proofs.Rooms.{feed_more, feed_all, feed_few}
 use Rattle.un_link.proofs.room.feed_bytes.Goals as goal
 
 pub loop-index-preserved : goal.loop-index-preserved

@@ -1,6 +1,7 @@
 use Rattle.std.proofs.Common.{arith}
+use Rattle.un_facts.proofs.Lists.{none_past}
 use Rattle.un_journal.specs.Script.{frames_of}
-use Rattle.un_report.proofs.Feeds.{few, some_below, none_above}
+use Rattle.un_report.proofs.Feeds.{few, some_below}
 use Rattle.un_report.proofs.survey.unread.Goals as goal
 
 pub loop-index-preserved : goal.loop-index-preserved
@@ -13,7 +14,7 @@ loop-index-preserved c =
 pub returns-in-None : goal.returns-in-None
 returns-in-None c =
     let frames = frames_of c.args.script.now c.args.lane c.args.sender in
-    let above = none_above frames c.loop-index.index c.in-None.ensures in
+    let above = none_past frames c.loop-index.index c.in-None.ensures in
     let high = c.loop-index.invariant.high in
     omega (arith, above, high)
 

@@ -1,6 +1,6 @@
 use Rattle.std.proofs.Common.{add-one, arith}
 use Rattle.std.proofs.lemmas.List.{take_rest}
-use Rattle.un_script.proofs.Cuts.{words_cut, words_whole}
+use Rattle.un_journal.proofs.ReadWords.{words_cut, words_whole}
 use Rattle.un_script.proofs.lines.cut_word.Goals as goal
 
 pub returns-in-Some-clause-cut : goal.returns-in-Some-clause-cut

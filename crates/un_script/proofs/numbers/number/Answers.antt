@@ -1,6 +1,7 @@
 use Rattle.std.proofs.Common.{◌≡◌, ◌∙◌, sym, ap, Some, true, arith, rules}
+use Rattle.un_journal.proofs.ReadNumbers.{number_more, number_done, digit_value}
 use Rattle.un_script.specs.Numbers.{is_number}
-use Rattle.un_script.proofs.Digits.{number_more, number_done, bound_more, digit_value, number_all}
+use Rattle.un_script.proofs.Digits.{bound_more, number_all}
 use Rattle.un_script.proofs.numbers.number.Goals as goal
 
 pub loop-digit-preserved : goal.loop-digit-preserved

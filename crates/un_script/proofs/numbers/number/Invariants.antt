@@ -1,5 +1,5 @@
 use Rattle.std.proofs.Common.{◌≡◌, ◌<◌, ◌^◌, drop}
-use Rattle.un_script.specs.Numbers.{number_from}
+use Rattle.un_journal.specs.TraceWords.{number_from}
 use Rattle.un_script.proofs.numbers.number.Given as goal
 
 abbrev pub invariant-loop-digit : goal.invariant-loop-digit

@@ -1,12 +1,13 @@
 use Rattle.std.proofs.Common.{◌≡◌, ◌+◌, ℕ, true, false, None, List, [], length, vec_len, sym, ap, ◌∙◌, arith}
 use Rattle.std.proofs.lemmas.Bool.{eqb-true}
+use Rattle.std.proofs.lemmas.List.{nil_from_length}
 use Rattle.un_frame.specs.Lanes.{packs}
 use Rattle.un_frame.specs.declared.params.Lane.TheVariants.{Outward}
 use Rattle.un_agg.specs.Held.{Held, claim_of}
 use Rattle.un_agg.specs.Block.{Block}
 use Rattle.un_agg.specs.Host.{frames_as, held_in, remainder_in}
 use Rattle.un_agg.proofs.Adding.{added_alone, added_settled}
-use Rattle.un_agg.proofs.HostLemmas.{first_of, idle, left_alone, no_items, nothing_packed}
+use Rattle.un_agg.proofs.HostLemmas.{first_of, idle, left_alone, nothing_packed}
 use Rattle.un_agg.proofs.host.HostAgg.add_in.Goals as goal
 
 pub returns-then-not-packs : goal.returns-then-not-packs
@@ -29,7 +30,7 @@ returns-then-is_empty c =
     let packed : packs a.block.params.class Outward ≡ true = sym c.packs.ensures ∙ c.if-not-packs.false in
     let len : vec_len a.remainder ≡ 0 = eqb-true (vec_len a.remainder) 0 (sym c.is_empty.ensures ∙ c.if-is_empty.true) in
     let size : vec_len a.remainder ≡ length a.remainder.items = grind (arith, a.remainder.ok) in
-    let empty : a.remainder.items ≡ [] = no_items a.remainder.items (omega (arith, len, size)) in
+    let empty : a.remainder.items ≡ [] = nil_from_length a.remainder.items (omega (arith, len, size)) in
     let none : (held_in a).frames ≡ [] = i.frames_are ∙ ap remainder_in empty in
     let count = ap (λ (fs : List (List ℕ)). length fs) none in
     rw (← c.self.view_is) (added_settled (held_in a) _ c.settle.new.self (claim_of c.args.request) c.args.frame.now c.args.number c.args.serial packed (λ some. absurd (omega (arith, some, count)))

@@ -1,6 +1,7 @@
 use Rattle.std.proofs.Common.{refl}
+use Rattle.un_frame.proofs.LaneLemmas.{same_lane-refl}
 use Rattle.un_journal.specs.declared.lines.Line.TheVariants.{Gave}
-use Rattle.un_journal.proofs.Steps.{own_past, same_lane_same}
+use Rattle.un_journal.proofs.Steps.{own_past}
 use Rattle.un_lane.proofs.Giving.{deliver_writes, deliver_stands, lent_some}
 use Rattle.un_lane.proofs.path.Path.deliver.Goals as goal
 
@@ -28,5 +29,5 @@ returns-in-Some-clause-answer g c =
 pub returns-in-Some-clause-stands : goal.returns-in-Some-clause-stands
 returns-in-Some-clause-stands g c =
     let w = rw (← c.self.view_is) at c.requires.stands in
-    rw (c.write.ensures.history_is, own_past _ (Gave c.self.inside.lane c.in-Some.number, c.in-Some.bytes.now) c.self.inside.lane (same_lane_same c.self.inside.lane))
+    rw (c.write.ensures.history_is, own_past _ (Gave c.self.inside.lane c.in-Some.number, c.in-Some.bytes.now) c.self.inside.lane (same_lane-refl c.self.inside.lane))
     (deliver_stands _ _ c.in-Some.number c.in-Some.bytes.now _ c.advance.result w c.in-Some.ensures.some c.advance.ensures)

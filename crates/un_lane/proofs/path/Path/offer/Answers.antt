@@ -1,7 +1,8 @@
 use Rattle.std.proofs.Common.{rules, ◌∷◌, [], refl, sym, ap, subst}
+use Rattle.un_frame.proofs.LaneLemmas.{same_lane-refl}
 use Rattle.un_journal.specs.declared.lines.Line.TheVariants.{Took, Made}
 use Rattle.un_journal.specs.LaneSteps.{lines_in, answer_in}
-use Rattle.un_journal.proofs.Steps.{own_past, same_lane_same}
+use Rattle.un_journal.proofs.Steps.{own_past}
 use Rattle.un_endpoint.specs.EndOutcomes.{IsBusy, Keeps, Makes}
 use Rattle.un_lane.specs.Way.{Way, HasRoom, Adds}
 use Rattle.un_lane.proofs.Adding.{accepted_small, made_small, adds_none, adds_more, room_front, room_rest}
@@ -36,13 +37,13 @@ returns-in-Kept-clause-answer g c =
 pub returns-in-Kept-clause-stands : goal.returns-in-Kept-clause-stands
 returns-in-Kept-clause-stands g c =
     let w = rw (← c.self.view_is) at c.requires.stands in
-    rw (c.write.ensures.history_is, own_past _ (Took c.self.inside.lane c.args.sender, []) c.self.inside.lane (same_lane_same c.self.inside.lane))
+    rw (c.write.ensures.history_is, own_past _ (Took c.self.inside.lane c.args.sender, []) c.self.inside.lane (same_lane-refl c.self.inside.lane))
     (keep_stands _ _ _ c.args.sender c.args.frame.now w c.in-Kept.ensures)
 
 pub returns-in-Kept-clause-leaves : goal.returns-in-Kept-clause-leaves
 returns-in-Kept-clause-leaves g c =
     let agrees = rw (← c.self.view_is) at c.requires.agrees in
-    rw (c.write.ensures.history_is, ← c.self.view_is, own_past _ (Took c.self.inside.lane c.args.sender, []) c.self.inside.lane (same_lane_same c.self.inside.lane))
+    rw (c.write.ensures.history_is, ← c.self.view_is, own_past _ (Took c.self.inside.lane c.args.sender, []) c.self.inside.lane (same_lane-refl c.self.inside.lane))
     (keeps_builds _ _ _ c.args.sender c.args.frame.now c.args.asleep c.in-Kept.ensures agrees)
 
 pub write-requires-in-Made-clause-room : goal.write-requires-in-Made-clause-room
@@ -84,9 +85,9 @@ returns-in-Made-clause-stands g c =
     let agrees = rw (← c.self.view_is) at c.requires.agrees in
     rw (
       c.write-in-Made-2.ensures.history_is,
-      own_past _ (Made c.self.inside.lane c.self.inside.made c.from.result c.to.result, c.bytes.result.now) c.self.inside.lane (same_lane_same c.self.inside.lane),
+      own_past _ (Made c.self.inside.lane c.self.inside.made c.from.result c.to.result, c.bytes.result.now) c.self.inside.lane (same_lane-refl c.self.inside.lane),
       c.write-in-Made.ensures.history_is,
-      own_past _ (Took c.self.inside.lane c.args.sender, []) c.self.inside.lane (same_lane_same c.self.inside.lane),
+      own_past _ (Took c.self.inside.lane c.args.sender, []) c.self.inside.lane (same_lane-refl c.self.inside.lane),
       c.from.ensures,
       c.to.ensures,
       c.bytes.ensures.bytes,
@@ -100,9 +101,9 @@ returns-in-Made-clause-leaves g c =
     rw (
       c.write-in-Made-2.ensures.history_is,
       ← c.self.view_is,
-      own_past _ (Made c.self.inside.lane c.self.inside.made c.from.result c.to.result, c.bytes.result.now) c.self.inside.lane (same_lane_same c.self.inside.lane),
+      own_past _ (Made c.self.inside.lane c.self.inside.made c.from.result c.to.result, c.bytes.result.now) c.self.inside.lane (same_lane-refl c.self.inside.lane),
       c.write-in-Made.ensures.history_is,
-      own_past _ (Took c.self.inside.lane c.args.sender, []) c.self.inside.lane (same_lane_same c.self.inside.lane),
+      own_past _ (Took c.self.inside.lane c.args.sender, []) c.self.inside.lane (same_lane-refl c.self.inside.lane),
       c.from.ensures,
       c.to.ensures,
       c.bytes.ensures.bytes,

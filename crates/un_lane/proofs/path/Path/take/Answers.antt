@@ -1,6 +1,7 @@
 use Rattle.std.proofs.Common.{[]}
+use Rattle.un_frame.proofs.LaneLemmas.{same_lane-refl}
 use Rattle.un_journal.specs.declared.lines.Line.TheVariants.{Flying, Cut}
-use Rattle.un_journal.proofs.Steps.{own_past, same_lane_same}
+use Rattle.un_journal.proofs.Steps.{own_past}
 use Rattle.un_lane.proofs.Taking.{depart_stands, queued_away, reap_stands}
 use Rattle.un_lane.proofs.path.Path.take.Goals as goal
 
@@ -12,7 +13,7 @@ finish-requires g c =
 pub returns-in-Some-Flight-clause-stands : goal.returns-in-Some-Flight-clause-stands
 returns-in-Some-Flight-clause-stands g c =
     let w = rw (← c.self.view_is) at c.requires.stands in
-    rw (c.write.ensures.history_is, own_past _ (Flying c.self.inside.lane c.serial-serial.result, []) c.self.inside.lane (same_lane_same c.self.inside.lane), c.serial-serial.ensures)
+    rw (c.write.ensures.history_is, own_past _ (Flying c.self.inside.lane c.serial-serial.result, []) c.self.inside.lane (same_lane-refl c.self.inside.lane), c.serial-serial.ensures)
     (depart_stands _ _ c.take.new.self c.in-Some-Flight.flight w (rw c.in-Some-Flight.field-0-is at c.in-Some-Flight.ensures).1)
 
 pub returns-in-Some-Reaped-clause-stands : goal.returns-in-Some-Reaped-clause-stands
@@ -21,7 +22,7 @@ returns-in-Some-Reaped-clause-stands g c =
     let reaps = rw c.in-Some-Reaped.field-0-is at c.in-Some-Reaped.ensures in
     rw (
       c.write-in-Some-Reaped.ensures.history_is,
-      own_past _ (Cut c.self.inside.lane c.serial-serial-in-Some-Reaped.result c.in-Some-Reaped.cause, []) c.self.inside.lane (same_lane_same c.self.inside.lane),
+      own_past _ (Cut c.self.inside.lane c.serial-serial-in-Some-Reaped.result c.in-Some-Reaped.cause, []) c.self.inside.lane (same_lane-refl c.self.inside.lane),
       c.serial-serial-in-Some-Reaped.ensures,
       c.finish.ensures,
     )

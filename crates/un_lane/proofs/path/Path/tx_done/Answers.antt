@@ -1,6 +1,7 @@
 use Rattle.std.proofs.Common.{[], refl}
+use Rattle.un_frame.proofs.LaneLemmas.{same_lane-refl}
 use Rattle.un_journal.specs.declared.lines.Line.TheVariants.{TxHome}
-use Rattle.un_journal.proofs.Steps.{own_past, same_lane_same}
+use Rattle.un_journal.proofs.Steps.{own_past}
 use Rattle.un_lane.proofs.Adding.{adds_none}
 use Rattle.un_lane.proofs.Opening.{tx_done_writes, tx_done_answers, tx_done_stands}
 use Rattle.un_lane.proofs.path.Path.tx_done.Goals as goal
@@ -36,5 +37,5 @@ returns-clause-answer g c =
 pub returns-clause-stands : goal.returns-clause-stands
 returns-clause-stands g c =
     let w = rw (← c.self.view_is) at c.requires.stands in
-    rw (c.write.ensures.history_is, own_past _ (TxHome c.self.inside.lane c.in-Some.serial, []) c.self.inside.lane (same_lane_same c.self.inside.lane))
+    rw (c.write.ensures.history_is, own_past _ (TxHome c.self.inside.lane c.in-Some.serial, []) c.self.inside.lane (same_lane-refl c.self.inside.lane))
     (tx_done_stands _ _ _ c.in-Some.serial w c.in-Some.ensures.some)

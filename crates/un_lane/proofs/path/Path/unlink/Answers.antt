@@ -1,6 +1,7 @@
 use Rattle.std.proofs.Common.{[], refl, sym, ◌∙◌}
+use Rattle.un_frame.proofs.LaneLemmas.{same_lane-refl}
 use Rattle.un_journal.specs.declared.lines.Line.TheVariants.{Marked, Recalled}
-use Rattle.un_journal.proofs.Steps.{own_past, same_lane_same}
+use Rattle.un_journal.proofs.Steps.{own_past}
 use Rattle.un_lane.proofs.Recalling.{recall_stands}
 use Rattle.un_lane.proofs.Marking.{mark_stands, unlink_marks}
 use Rattle.un_lane.proofs.path.Path.unlink.Goals as goal
@@ -21,12 +22,12 @@ returns-in-Some-clause-answer g c =
 pub returns-in-Some-clause-stands : goal.returns-in-Some-clause-stands
 returns-in-Some-clause-stands g c =
     let w = rw (← c.self.view_is) at c.requires.stands in
-    rw (c.write.ensures.history_is, own_past _ (Marked c.self.inside.lane c.in-Some.serial c.args.cause, []) c.self.inside.lane (same_lane_same c.self.inside.lane))
+    rw (c.write.ensures.history_is, own_past _ (Marked c.self.inside.lane c.in-Some.serial c.args.cause, []) c.self.inside.lane (same_lane-refl c.self.inside.lane))
     (mark_stands _ _ _ c.in-Some.serial c.args.cause w c.in-Some.ensures)
 
 pub returns-in-Some-recall-clause-stands : goal.returns-in-Some-recall-clause-stands
 returns-in-Some-recall-clause-stands g c =
     let w = rw (← c.self.view_is) at c.requires.stands in
     let none = c.mark_oldest.ensures in
-    rw (c.write-in-Some-recall.ensures.history_is, own_past _ (Recalled c.self.inside.lane, []) c.self.inside.lane (same_lane_same c.self.inside.lane), c.give_back.ensures)
+    rw (c.write-in-Some-recall.ensures.history_is, own_past _ (Recalled c.self.inside.lane, []) c.self.inside.lane (same_lane-refl c.self.inside.lane), c.give_back.ensures)
     (recall_stands _ _ c.recall.new.self c.in-Some-recall.request w (sym c.in-None.ensures.same ∙ c.in-Some-recall.ensures.some))

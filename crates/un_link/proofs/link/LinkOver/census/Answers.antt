@@ -1,5 +1,5 @@
 use Rattle.std.proofs.Common.{arith, ◌≤◌, ◌<◌, sym, ◌∙◌, ap, subst}
-use Rattle.un_journal.specs.Census.{one_if}
+use Rattle.un_facts.specs.Numbers.{one_if}
 use Rattle.un_journal.specs.History.{gave, past, taken}
 use Rattle.un_link.specs.Link.{Holds, Link}
 use Rattle.un_link.proofs.Standing.{in_path_few, filled_is, census_adds, census_names, census_none, past_census}

@@ -1,6 +1,7 @@
 use Rattle.std.proofs.Common.{◌≡◌, ◌&&◌, false, ◌∙◌, sym, ap, refl}
+use Rattle.std.proofs.lemmas.Bool.{and_right}
 use Rattle.un_journal.specs.Step.{quiet}
-use Rattle.un_link.proofs.Controlling.{not_due_steps, not_quiet, not_forced}
+use Rattle.un_link.proofs.Controlling.{not_due_steps, not_forced}
 use Rattle.un_link.proofs.link.LinkOver.control.Goals as goal
 use Rattle.un_link.proofs.link.LinkOver.control.Goals.{else-force-via-then-force+else-quiet, else-force-via-else-force}
 
@@ -8,7 +9,7 @@ pub returns : goal.returns
 returns g c =
     let q : (c.args.force && quiet c.args.self.now.script c.args.self.now.log.history) ≡ false =
     elim c.else-force.branch [
-      | else-force-via-then-force+else-quiet w ↦ not_quiet _ _ (sym w.quiet.ensures ∙ w.if-quiet.false)
+      | else-force-via-then-force+else-quiet w ↦ and_right _ _ (sym w.quiet.ensures ∙ w.if-quiet.false)
       | else-force-via-else-force w ↦ not_forced _ _ w.if-force.false
     ] in
     rw (← c.self.view_is)

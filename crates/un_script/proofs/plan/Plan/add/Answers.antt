@@ -1,8 +1,6 @@
-use Rattle.std.proofs.Common.{◌≡◌, None, sym, ap, ◌∙◌, subst, List, false, refl}
-use Rattle.un_frame.specs.declared.params.Lane.{Lane}
+use Rattle.std.proofs.Common.{◌≡◌, None, false, refl}
 use Rattle.un_frame.specs.declared.params.Lane.TheVariants.{Outward, Inward}
 use Rattle.un_frame.specs.Lanes.{same_lane}
-use Rattle.un_journal.specs.declared.controls.Planned.{Planned}
 use Rattle.un_journal.specs.Script.{planned_in}
 use Rattle.un_script.proofs.Plans.{mine_after, other_after}
 use Rattle.un_script.proofs.plan.Plan.add.Goals as goal

@@ -1,4 +1,4 @@
-use Rattle.un_journal.specs.Census.{one_if}
+use Rattle.un_facts.specs.Numbers.{one_if}
 use Rattle.un_turn.proofs.guard.Guard.leave.Given as goal
 
 abbrev pub ghosts-free : goal.ghosts-free
