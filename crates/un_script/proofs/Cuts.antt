@@ -1,7 +1,6 @@
 -- The first line of a text and the first word of a line, cut at the first end.
-use Rattle.std.proofs.Common.{ℕ, zero, suc, ◌<◌, ◌≡◌, Bool, true, false, ◌==◌, List, [], ◌∷◌, length, take, drop, slice_index, refl, arith}
+use Rattle.std.proofs.Common.{ℕ, zero, suc, ◌<◌, ◌≡◌, true, ◌==◌, List, [], ◌∷◌, length, take, drop, slice_index, refl, arith}
 use Rattle.std.proofs.lemmas.Bool.{false_from_ne_true}
-use Rattle.un_journal.specs.TraceWords.{words_in}
 use Rattle.un_script.specs.Words.{lines_of}
 
 pub lines_cut : (xs : List ℕ) (i : ℕ) → i < length xs → ((k : ℕ) → k < i → (slice_index xs k == 10) ≡ true → ⊥) → (slice_index xs i == 10) ≡ true

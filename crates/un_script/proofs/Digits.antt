@@ -1,12 +1,10 @@
 -- Digits of a number.
-use Rattle.std.proofs.Common.{ℕ, zero, suc, ◌+◌, ◌-◌, ◌*◌, ◌^◌, ◌<◌, ◌≤◌, ◌≡◌, true, false, ◌==◌, ◌&&◌, not, nat_le, List, [], ◌∷◌, length, drop, slice_index, refl, arith, add-one}
-use Rattle.std.proofs.lemmas.List.{drop_more, drop_all}
+use Rattle.std.proofs.Common.{ℕ, ◌+◌, ◌*◌, ◌^◌, ◌<◌, ◌≤◌, ◌≡◌, true, ◌==◌, ◌&&◌, not, nat_le, List, length, arith, add-one}
 use Rattle.std.proofs.Math.Nat.{pow-suc, pow-le-pow_right}
 use Rattle.std.proofs.lemmas.Bool.{and_parts}
 use Rattle.std.proofs.lemmas.Bool.Decides.{nat_tests}
 use Rattle.std.specs.List.{list_all}
-use Rattle.un_script.specs.Words.{has_no_byte}
-use Rattle.un_journal.specs.TraceWords.{is_digit, is_numeral, has_leading_zero, number_from}
+use Rattle.un_journal.specs.TraceWords.{is_digit, is_numeral, has_leading_zero}
 use Rattle.un_script.specs.Numbers.{is_number}
 
 pub bound_more : (v d i : ℕ) → v < 10 ^ i → d ≤ 9 → v * 10 + d < 10 ^ (i + 1)

@@ -15,7 +15,7 @@ use Rattle.un_journal.specs.declared.controls.Control.{Control as Command}
 use Rattle.un_journal.specs.Script.{Script, Frame, planned, frame_count}
 use Rattle.un_script.specs.declared.why.Why.{Why}
 use Rattle.un_script.specs.declared.why.Why.TheVariants.{Word, Order, Number, Range, Hex, Count, Control, Fault}
-use Rattle.un_script.specs.Words.{is_plain, is_spelled, lines_of, is_skipped, has_no_byte}
+use Rattle.un_script.specs.Words.{is_spelled, lines_of, is_skipped, has_no_byte}
 use Rattle.un_script.specs.Numbers.{number_of, bytes_of, byte_of}
 use Rattle.un_script.specs.Table.{control_named, parameter_named, place_of, is_allowed, is_filter, is_pool_size, is_sender, is_want, is_planned_serial, may_follow, with_number, CLASS_PLACE, FILTER_PLACE, REQUESTS_PLACE, BODY_PLACE, MOST_FRAMES, MOST_CONTROLS, MOST_FAULTS, defaults}
 use Rattle.un_script.specs.Parts.{HasBytes, empty_script, with_frame, may_come}

@@ -1,8 +1,6 @@
 -- Numbers and bytes as texts.
-use Rattle.std.specs.Prelude.{ℕ, ◌+◌, ◌-◌, ◌*◌, Bool, false, ◌&&◌, ◌==◌, nat_le, not, List, [], ◌∷◌, length, slice_index, Option, Some, None, if◌then◌else◌}
-use Rattle.std.specs.List.{list_all}
+use Rattle.std.specs.Prelude.{ℕ, Bool, ◌&&◌, nat_le, List, length, slice_index, Option, Some, None, if◌then◌else◌}
 use Rattle.std.specs.Result.{result_ok}
-use Rattle.un_script.specs.Words.{has_no_byte}
 use Rattle.un_journal.specs.TraceWords.{is_numeral, number_from}
 use Rattle.hex.specs.Hex.{decode_of, decode_sized}
 

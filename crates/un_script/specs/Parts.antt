@@ -1,12 +1,12 @@
 -- What a script's parts are when one more is added, and which may be.
-use Rattle.std.specs.Prelude.{ℕ, ◌+◌, ◌<◌, Bool, ◌==◌, List, [], ◌∷◌, ◌++◌, length, Option, Some, None, is_some, All, if◌then◌else◌}
+use Rattle.std.specs.Prelude.{ℕ, ◌<◌, Bool, ◌==◌, List, [], ◌∷◌, ◌++◌, length, Option, Some, None, is_some, All, if◌then◌else◌}
 use Rattle.un_frame.specs.declared.params.Lane.{Lane}
 use Rattle.un_frame.specs.declared.params.Lane.TheVariants.{Outward, Inward}
 use Rattle.un_frame.specs.declared.params.Params.{Params}
 use Rattle.un_journal.specs.declared.controls.Control.{Control}
 use Rattle.un_journal.specs.declared.controls.Control.TheVariants.{Suspend, Resume, Down, Up, Unlink, Unplug}
 use Rattle.un_journal.specs.declared.controls.Due.{Due}
-use Rattle.un_journal.specs.Script.{Frame, Feeds, Script, frames_in_all}
+use Rattle.un_journal.specs.Script.{Frame, Feeds, Script}
 use Rattle.un_script.specs.declared.standing.Standing.{Standing}
 use Rattle.un_script.specs.declared.standing.Standing.TheVariants.{AtWork, AtRest, Off, Gone}
 

@@ -1,4 +1,4 @@
-use Rattle.std.proofs.Common.{◌+◌, arith}
+use Rattle.std.proofs.Common.{arith}
 use Rattle.un_frame.specs.declared.params.Lane.TheVariants.{Outward, Inward}
 use Rattle.un_script.proofs.Readiness.{frame_ready, one_more}
 use Rattle.un_script.proofs.script.Script.add_frame.Goals as goal
