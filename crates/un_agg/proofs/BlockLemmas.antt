@@ -1,12 +1,11 @@
 -- An open block begins, grows and is closed.
-use Rattle.std.proofs.Common.{◌≡◌, ℕ, suc, ◌+◌, ◌<◌, ◌≤◌, true, List, [], ◌∷◌, ◌++◌, length, map, Option, Some, IsTrue, refl, sym, ap, ◌∙◌, subst, arith, append_assoc, append-nil, length-append}
+use Rattle.std.proofs.Common.{◌≡◌, ℕ, suc, ◌+◌, ◌<◌, ◌≤◌, true, List, [], ◌∷◌, ◌++◌, length, map, Option, Some, IsTrue, refl, sym, ap, ◌∙◌, subst, arith, length-append}
 use Rattle.std.specs.List.{AllByRecursion}
 use Rattle.un_facts.proofs.Lists.{all_more}
-use Rattle.un_frame.specs.declared.params.Class.{Class}
 use Rattle.un_frame.specs.declared.params.Params.{Params}
 use Rattle.un_frame.specs.OpenFrames.{open_frames}
 use Rattle.un_frame.specs.Params.{AreInRange, Agree}
-use Rattle.un_frame.specs.Wire.{Coding, IsOpen, FitInTurn, fits_as, frame_fits, capacity_of, form, open_form}
+use Rattle.un_frame.specs.Wire.{Coding, IsOpen, FitInTurn, frame_fits, capacity_of, form, open_form}
 use Rattle.un_frame.proofs.PartLemmas.{open_frames_found}
 use Rattle.un_frame.proofs.FrameLemmas.{open_grows}
 use Rattle.un_frame.proofs.WireLemmas.{form_is_read, fit_last}

@@ -1,10 +1,9 @@
 -- A new transmitting end, and the first request of a list that comes home.
-use Rattle.std.proofs.Common.{◌≡◌, ℕ, zero, suc, ◌+◌, ◌<◌, ◌≤◌, Bool, true, false, eqb, nat_lt, List, [], ◌∷◌, map, IsTrue, refl, ap, subst, arith}
+use Rattle.std.proofs.Common.{◌≡◌, ℕ, ◌+◌, ◌<◌, ◌≤◌, Bool, true, false, eqb, nat_lt, List, [], ◌∷◌, map, IsTrue, refl, ap, subst, arith}
 use Rattle.std.proofs.lemmas.Bool.{ltb-true, ltb-false}
 use Rattle.std.specs.List.{AllByRecursion}
 use Rattle.un_req.proofs.Homes.{upto_none, upto_once}
 use Rattle.un_frame.specs.Lanes.{tx_size}
-use Rattle.un_facts.proofs.Copies.{copies_append}
 use Rattle.un_facts.proofs.Numbers.{one_here}
 use Rattle.un_facts.specs.Lists.{copies}
 use Rattle.un_facts.specs.Numbers.{one_if}
@@ -13,11 +12,11 @@ use Rattle.un_frame.specs.declared.params.Params.{Params}
 use Rattle.un_frame.specs.Params.{AreInRange, Agree}
 use Rattle.un_frame.specs.Wire.{frame_fits}
 use Rattle.un_frame.proofs.FrameLemmas.{segment_fits}
-use Rattle.un_req.specs.Request.{Buffer, number_of, upto}
+use Rattle.un_req.specs.Request.{Buffer, number_of}
 use Rattle.un_endpoint.specs.Ends.{Transmitter, tx_copies}
 use Rattle.un_ends.specs.Rows.{IsFirstOut}
 use Rattle.un_ends.specs.Sound.{IsSoundTx, fresh_tx}
-use Rattle.un_ends.proofs.Copies.{none_has, one_cases}
+use Rattle.un_ends.proofs.Copies.{none_has}
 
 pub fresh_sound : (lane : Lane) (params : Params) → AreInRange params → Agree params → IsSoundTx (fresh_tx lane params)
 fresh_sound lane params in_range agree = record {

@@ -4,7 +4,6 @@ use Rattle.std.specs.List.{AllByRecursion}
 use Rattle.un_frame.specs.Lanes.{tx_size}
 use Rattle.un_frame.specs.declared.params.Params.{Params}
 use Rattle.un_frame.specs.declared.params.Lane.{Lane}
-use Rattle.un_frame.specs.declared.params.Lane.TheVariants.{Outward, Inward}
 use Rattle.un_frame.specs.Params.{AreInRange, Agree}
 use Rattle.un_frame.specs.Wire.{capacity_of}
 use Rattle.un_req.specs.Request.{upto}

@@ -1,13 +1,11 @@
 -- A whole transfer is opened at its first part.
 use Rattle.std.proofs.Common.{◌≡◌, ℕ, ◌-◌, ◌<◌, List, None, arith}
 use Rattle.un_frame.specs.declared.params.Class.{Class}
-use Rattle.un_frame.specs.declared.params.Class.TheVariants.{Ecm, Eem, Ncm16, Ncm32}
 use Rattle.un_frame.specs.declared.params.Params.{Params}
 use Rattle.un_frame.specs.Bytes.{AreBytes}
-use Rattle.un_frame.specs.Laws.{FaultIsExact}
 use Rattle.un_frame.specs.Parts.{ReadsAs}
 use Rattle.un_frame.specs.Wire.{fault_of}
-use Rattle.un_frame.proofs.WireLemmas.{ecm_exact, eem_is_exact, ncm16_exact, ncm32_exact, fault_is_exact}
+use Rattle.un_frame.proofs.WireLemmas.{fault_is_exact}
 use Rattle.un_req.specs.Request.{Buffer}
 use Rattle.un_wire.specs.Cursors.{IsAt, part_count, part_index}
 use Rattle.un_wire.specs.declared.cursor.Cursor.{Cursor}
