@@ -1,9 +1,6 @@
 -- A set-up packet and its bytes are one another's.
 use Rattle.std.proofs.Common.{◌≡◌, ℕ, ◌<◌, List, [], ◌∷◌, length, refl, ap, ◌∙◌, arith}
-use Rattle.std.specs.Int.{bytes_low_first}
 use Rattle.un_desc.proofs.Built.{again, again_same}
-use Rattle.byteorder.specs.Endian.{little_from}
-use Rattle.byteorder.specs.Numbers.{little_number-reads_back}
 use Rattle.un_frame.specs.Bytes.{AreBytes, number_at, number_bytes}
 use Rattle.un_frame.proofs.EemLemmas.{number_bytes-number_at}
 use Rattle.un_classreq.specs.declared.setup.Setup.{Setup}

@@ -1,6 +1,6 @@
 -- What the device answers to a set-up packet: the first reason to stall, in the order of the tests, or the effect and
 -- the reply of the request's row. The order is this project's own.
-use Rattle.std.specs.Prelude.{◌≡◌, ℕ, Bool, true, false, ◌&&◌, ◌||◌, List, length, take, find, nat_le, ◌==◌, if◌then◌else◌, Option, Some, None, Result, Ok, Err}
+use Rattle.std.specs.Prelude.{◌≡◌, ℕ, Bool, true, false, ◌&&◌, ◌||◌, List, length, take, find, nat_le, ◌==◌, Option, Some, None, Result, Ok, Err}
 use Rattle.un_facts.specs.Results.{◌>>=◌, needs, given}
 use Rattle.un_frame.specs.declared.params.Params.{Params}
 use Rattle.un_frame.specs.declared.params.Class.{Class}

@@ -1,7 +1,7 @@
 -- The table of requests that the device knows: how each is told, by which classes, where and when it may come, what it
 -- does and what it sends. Names and codes are the standards', the rules on index, length, setting and value are this
 -- project's own.
-use Rattle.std.specs.Prelude.{ℕ, Bool, ◌&&◌, List, [], ◌∷◌, ◌++◌, nat_le, ◌==◌, if◌then◌else◌, Option, Some, None}
+use Rattle.std.specs.Prelude.{ℕ, Bool, List, [], ◌∷◌, ◌++◌, nat_le, ◌==◌, if◌then◌else◌, Option, Some, None}
 use Rattle.un_facts.specs.Numbers.{is_between}
 use Rattle.un_frame.specs.Bytes.{number_at, number_bytes}
 use Rattle.un_frame.specs.declared.params.Params.{Params}
