@@ -1,7 +1,5 @@
 -- How often numbers stand in lists, and facts on every element.
-use Rattle.std.proofs.Common.{◌≡◌, ℕ, ◌+◌, eqb, List, [], ◌∷◌, ◌++◌, length, map, refl, ap, ◌∙◌, arith}
-use Rattle.std.proofs.lemmas.Bool.{eq-eqb}
-use Rattle.std.specs.List.{AllByRecursion}
+use Rattle.std.proofs.Common.{◌≡◌, ℕ, ◌+◌, eqb, List, [], ◌∷◌, ◌++◌, map, refl, ap, ◌∙◌}
 use Rattle.un_facts.proofs.Copies.{copies_last}
 use Rattle.un_facts.specs.Lists.{copies}
 use Rattle.un_facts.specs.Numbers.{one_if}

@@ -1,6 +1,5 @@
 -- The transfers that are over and whose requests aren't home, when one more is over.
 use Rattle.std.proofs.Common.{◌≡◌, ℕ, ◌<◌, ◌≤◌, Bool, true, false, ◌&&◌, [], ◌∷◌, ◌++◌, refl, ◌∙◌, arith, nat_le}
-use Rattle.std.proofs.lemmas.Bool.Decides.{nat_tests}
 use Rattle.std.proofs.lemmas.Bool.{le-leb}
 use Rattle.un_journal.specs.History.{History, made, those, ended, returned, ends}
 use Rattle.un_journal.specs.Sound.{IsSound}

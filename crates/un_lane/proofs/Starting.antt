@@ -2,9 +2,9 @@
 use Rattle.std.proofs.Common.{◌≡◌, ℕ, zero, suc, ◌+◌, ◌<◌, ◌≤◌, Bool, true, false, ◌&&◌, eqb, [], ◌∷◌, ◌++◌, length, None, inl, inr, refl, sym, ap, ◌∙◌, subst, arith}
 use Rattle.std.proofs.lemmas.Bool.{cases_lt}
 use Rattle.std.proofs.lemmas.List.{length_push}
-use Rattle.un_req.proofs.Homes.{upto_none, upto_once}
+use Rattle.un_req.proofs.Homes.{upto_once}
 use Rattle.un_facts.proofs.Copies.{copies_last}
-use Rattle.un_facts.proofs.Numbers.{one_most, one_here}
+use Rattle.un_facts.proofs.Numbers.{one_here}
 use Rattle.un_facts.specs.Lists.{copies}
 use Rattle.un_facts.specs.Numbers.{one_if}
 use Rattle.un_frame.specs.declared.params.Params.{Params}

@@ -1,6 +1,6 @@
 -- What a path stands for. Each part is a record over the values of look-ups, so a line that changes none of these values keeps the
 -- part as it is; and over the parts of a path, so a call that changes none of these keeps it too. Sums stand where look-ups subtract.
-use Rattle.std.specs.Prelude.{◌≡◌, ℕ, ◌+◌, ◌-◌, ◌<◌, ◌≤◌, Bool, true, false, ◌&&◌, nat_lt, nat_le, min, List, [], ◌∷◌, ◌++◌, map, length, Option, Some, None, is_some, option_to_list, if◌then◌else◌}
+use Rattle.std.specs.Prelude.{◌≡◌, ℕ, ◌+◌, ◌-◌, ◌<◌, ◌≤◌, Bool, true, ◌&&◌, nat_lt, nat_le, min, List, [], ◌∷◌, ◌++◌, map, length, Option, Some, None, is_some, option_to_list, if◌then◌else◌}
 use Rattle.std.specs.List.{AllByRecursion}
 use Rattle.un_facts.specs.Lists.{copies}
 use Rattle.un_frame.specs.declared.params.Params.{Params}

@@ -1,13 +1,10 @@
 -- The two sums of the rule in words.
-use Rattle.std.proofs.Common.{◌≡◌, ℕ, List, Option, ap, ◌∙◌, arith}
+use Rattle.std.proofs.Common.{List, ◌∙◌, arith}
 use Rattle.un_facts.specs.Numbers.{one_if}
-use lib.ListN.{get_elem?}
-use Rattle.atomic_table.specs.Table.{State}
 use Rattle.un_journal.specs.declared.machine.Flight.{Flight}
 use Rattle.un_journal.specs.Flights.{times}
 use Rattle.un_journal.specs.History.{History}
-use Rattle.un_turn.specs.declared.view.View.{View}
-use Rattle.un_turn.specs.Rule.{Turned, OneHas, NoneHas, RuleInWords}
+use Rattle.un_turn.specs.Rule.{RuleInWords}
 use Rattle.un_turn.proofs.Sums.{term_le, one_has}
 
 pub in_words : {M S : Type 0} (script : M → S) (history : M → History) (flights : M → List Flight) → RuleInWords script history flights

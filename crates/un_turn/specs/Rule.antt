@@ -1,5 +1,5 @@
 -- The rule of the turn: what holds of the word, of the slot while it is at home, and of the views of all seats, between any two steps.
-use Rattle.std.specs.Prelude.{◌≡◌, ◌≢◌, ℕ, ◌<◌, ◌≤◌, ◌⊎◌, true, false, List, [], ◌∷◌, Option, Some, length}
+use Rattle.std.specs.Prelude.{◌≡◌, ◌≢◌, ℕ, ◌<◌, ◌≤◌, ◌⊎◌, true, List, [], ◌∷◌, Option, Some, length}
 use Rattle.un_facts.specs.Numbers.{one_if}
 use mathlib.Core.Option.{some}
 use lib.ListN.{get_elem?}
