@@ -1,5 +1,5 @@
 -- What a seat knows after a hold.
-use Rattle.std.proofs.Common.{◌≡◌, List, [], ◌∷◌, Some, ap, ◌∙◌, arith}
+use Rattle.std.proofs.Common.{◌≡◌, List, [], Some, ap, ◌∙◌, arith}
 use Rattle.un_journal.specs.History.{History}
 use Rattle.un_journal.specs.declared.machine.Flight.{Flight}
 use Rattle.un_journal.specs.declared.machine.Transfer.{Transfer}
