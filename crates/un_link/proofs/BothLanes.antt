@@ -1,12 +1,10 @@
 -- Two paths after lines of the one lane and then of the other.
-use Rattle.std.proofs.Common.{◌≡◌, ℕ, zero, suc, Bool, true, false, List, [], ◌∷◌, ◌++◌, length, refl, sym, ap, ◌∙◌, subst, append-nil, if◌then◌else◌, ◌==◌, filter}
+use Rattle.std.proofs.Common.{◌≡◌, ℕ, [], ◌∷◌, ◌++◌, length, refl, sym, ap, ◌∙◌, subst, append-nil, filter}
 use Rattle.un_frame.specs.declared.params.Lane.{Lane}
 use Rattle.un_frame.specs.declared.params.Lane.TheVariants.{Outward, Inward}
-use Rattle.un_journal.specs.declared.lines.Line.{Line}
-use Rattle.un_journal.specs.History.{History, past, concerns, taken, cover, built, posted}
+use Rattle.un_journal.specs.History.{History, past, concerns, posted}
 use Rattle.un_journal.specs.Log.{Log}
-use Rattle.un_journal.specs.LaneSteps.{bare}
-use Rattle.un_journal.specs.Step.{marked_each, cut_each, recalled_each, dropped_built}
+use Rattle.un_journal.specs.Step.{recalled_each, dropped_built}
 use Rattle.un_journal.proofs.Onto.{onto, AllOf, filter_of, filter_append, past_onto}
 use Rattle.un_journal.proofs.LaneFacts.{past_own, past_other}
 use Rattle.un_journal.proofs.Rules.{onto_marked, cut_of, marked_of, recalled_of, dropped_of}

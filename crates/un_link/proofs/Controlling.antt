@@ -1,5 +1,5 @@
 -- A link after a control.
-use Rattle.std.proofs.Common.{◌≡◌, ℕ, zero, suc, ◌+◌, ◌-◌, ◌<◌, ◌≤◌, ◌^◌, Bool, true, false, ◌&&◌, ◌||◌, nat_lt, List, [], ◌∷◌, ◌++◌, length, map, reverse, Option, Some, None, slice_get, refl, sym, ap, ◌∙◌, subst, arith, append-nil, if◌then◌else◌}
+use Rattle.std.proofs.Common.{◌≡◌, ℕ, zero, suc, ◌+◌, ◌<◌, ◌≤◌, ◌^◌, Bool, false, ◌&&◌, ◌||◌, List, [], ◌∷◌, ◌++◌, length, map, reverse, Option, Some, None, slice_get, refl, sym, ap, ◌∙◌, subst, arith, append-nil, if◌then◌else◌}
 use Rattle.std.proofs.lemmas.List.{length-map}
 use Rattle.un_frame.specs.declared.params.Lane.{Lane}
 use Rattle.un_frame.specs.declared.params.Lane.TheVariants.{Outward, Inward}
@@ -11,9 +11,9 @@ use Rattle.un_journal.specs.declared.actions.Answer.{Answer}
 use Rattle.un_journal.specs.declared.controls.Control.{Control as Order}
 use Rattle.un_journal.specs.declared.controls.Due.{Due}
 use Rattle.un_journal.specs.Script.{Script}
-use Rattle.un_journal.specs.History.{Entry, History, past, concerns, taken, consumed, flying, posted}
+use Rattle.un_journal.specs.History.{Entry, History, past, taken, consumed, flying, posted}
 use Rattle.un_journal.specs.Log.{Log}
-use Rattle.un_journal.specs.Lookup.{phase_of, phase_after, after_order, after_control, controls_done, is_stopping, is_leaving, queued, deferred, unmarked}
+use Rattle.un_journal.specs.Lookup.{phase_of, phase_after, after_order, after_control, controls_done, is_stopping, is_leaving, queued, unmarked}
 use Rattle.un_journal.specs.LaneSteps.{Outcome, Writes, Answers, lines_in, answer_in, bare}
 use Rattle.un_journal.specs.Step.{control, control_head, control_now, control_forced, order_lines, marked_each, recalled_each, hinders, is_due, quiet}
 use Rattle.un_journal.specs.Sound.{IsSound}
@@ -22,12 +22,11 @@ use Rattle.un_journal.proofs.Onto.{onto, newest, onto_append, past_onto}
 use Rattle.un_journal.proofs.LaneFacts.{phase_kept, controls_kept}
 use Rattle.un_journal.proofs.Rules.{onto_marked, onto_recalled, onto_stop, order_part, order_filter, order_still, stop_part}
 use Rattle.un_lane.specs.Way.{Way, HasRoom, Adds}
-use Rattle.un_lane.specs.Stands.{Stands, serial_of, flight_serial}
-use Rattle.un_lane.proofs.Adding.{adds_more, room_front, room_rest}
+use Rattle.un_lane.specs.Stands.{serial_of, flight_serial}
+use Rattle.un_lane.proofs.Adding.{adds_more, room_rest}
 use Rattle.un_lane.proofs.Lookups.{queued_is}
-use Rattle.un_link.specs.declared.cursors.Cursors.{Cursors}
-use Rattle.un_link.specs.Keeps.{AreRead, Keeps}
-use Rattle.un_link.specs.Link.{Link, Holds, Steps, flights_of, lane_flights}
+use Rattle.un_link.specs.Keeps.{Keeps}
+use Rattle.un_link.specs.Link.{Link, Holds, Steps, lane_flights}
 use Rattle.un_link.specs.Orders.{KeepBoth, Obeys}
 use Rattle.un_link.proofs.Flying.{flight_kept}
 use Rattle.un_link.proofs.Holding.{act_room, act_logged, read_same}

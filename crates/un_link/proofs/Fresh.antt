@@ -1,5 +1,5 @@
 -- A new link.
-use Rattle.std.proofs.Common.{◌≡◌, ℕ, false, [], refl, sym, ap, ◌∙◌, arith}
+use Rattle.std.proofs.Common.{◌≡◌, ℕ, [], refl, sym, ap, ◌∙◌, arith}
 use Rattle.std.proofs.lemmas.Bool.{false≢true}
 use Rattle.un_lane.proofs.LinkSteps.{defers_awake}
 use Rattle.un_frame.specs.declared.params.Lane.{Lane}
@@ -14,7 +14,6 @@ use Rattle.un_journal.specs.Drain.{line_bound}
 use Rattle.un_journal.specs.Fits.{begins}
 use Rattle.un_lane.specs.Way.{Way}
 use Rattle.un_lane.specs.Stands.{Stands}
-use Rattle.un_lane.specs.Phases.{defers}
 use Rattle.un_lane.specs.Fresh.{AreFresh}
 use Rattle.un_script.specs.Ready.{IsReady}
 use Rattle.un_link.specs.declared.cursors.Cursors.{Cursors}

@@ -1,5 +1,5 @@
 -- What the orders of controls do to two paths.
-use Rattle.std.proofs.Common.{◌≡◌, ℕ, zero, suc, ◌+◌, ◌≤◌, Bool, true, false, List, [], ◌∷◌, ◌++◌, length, drop, map, Option, Some, None, refl, sym, ap, ◌∙◌, subst, arith, append-nil, append_assoc, drop_of_length-le}
+use Rattle.std.proofs.Common.{◌≡◌, ℕ, suc, ◌+◌, Bool, true, false, List, [], ◌∷◌, ◌++◌, length, map, Option, Some, None, refl, sym, ap, ◌∙◌, subst, arith, append_assoc, drop_of_length-le}
 use Rattle.std.proofs.lemmas.Bool.{false≢true}
 use Rattle.un_facts.proofs.Numbers.{middle_zero}
 use Rattle.un_frame.specs.declared.params.Lane.{Lane}
@@ -11,9 +11,9 @@ use Rattle.un_journal.specs.declared.controls.Control.{Control as Order}
 use Rattle.un_journal.specs.Script.{Script}
 use Rattle.un_journal.specs.History.{History, past, taken, cover, flying, posted}
 use Rattle.un_journal.specs.Log.{Log}
-use Rattle.un_journal.specs.Lookup.{after_order, is_asleep, datagrams, built_frames, deferred, queued, unmarked}
+use Rattle.un_journal.specs.Lookup.{is_asleep, datagrams, built_frames, deferred, queued, unmarked}
 use Rattle.un_journal.specs.Step.{order_lines, hinders, marked_each, cut_each, recalled_each, dropped_built}
-use Rattle.un_journal.proofs.Onto.{onto, AllOf}
+use Rattle.un_journal.proofs.Onto.{onto}
 use Rattle.un_journal.proofs.Formed.{count_datagrams}
 use Rattle.un_journal.proofs.Rules.{onto_marked, onto_recalled}
 use Rattle.un_lane.specs.Way.{Way, HasRoom, Adds}
@@ -22,7 +22,7 @@ use Rattle.un_lane.specs.Controls.{Stays, unmarked_in, unmarked_lines, deferred_
 use Rattle.un_lane.specs.Stands.{Stands, serial_of, flight_serial}
 use Rattle.un_lane.proofs.Adding.{adds_none, adds_more, room_front, room_rest}
 use Rattle.un_lane.proofs.Lookups.{queued_is}
-use Rattle.un_lane.proofs.LinkSteps.{marks_are, cuts_are, recalls_are, posted_is, agrees_inward, agrees_resumed, agrees_awake}
+use Rattle.un_lane.proofs.LinkSteps.{marks_are, cuts_are, recalls_are, agrees_inward, agrees_resumed, agrees_awake}
 use Rattle.un_link.specs.Keeps.{Keeps}
 use Rattle.un_link.specs.Orders.{AreBoth, KeepBoth, DoBoth, Obeys}
 use Rattle.un_link.proofs.BothLanes.{own_lines, in_same, out_same, unmarked_own, posted_own, posted_same}

@@ -1,5 +1,5 @@
 -- Steps that write nothing.
-use Rattle.std.proofs.Common.{◌≡◌, ℕ, ◌+◌, ◌<◌, Bool, true, false, nat_lt, [], ◌∷◌, ◌++◌, None, reverse, refl, sym, ap, subst, ◌∙◌, arith, if◌then◌else◌, append-nil}
+use Rattle.std.proofs.Common.{◌≡◌, ℕ, ◌<◌, Bool, true, false, nat_lt, ◌∷◌, None, reverse, refl, sym, ap, subst, ◌∙◌, arith, if◌then◌else◌}
 use Rattle.std.proofs.lemmas.Bool.Decides.{nat_tests}
 use Rattle.un_lane.proofs.Adding.{adds_none}
 use Rattle.un_frame.specs.declared.params.Lane.{Lane}

@@ -1,18 +1,17 @@
 -- A link after the end of a stop.
-use Rattle.std.proofs.Common.{◌≡◌, ℕ, suc, ◌+◌, ◌<◌, ◌≤◌, Bool, true, false, ◌&&◌, ◌||◌, ◌==◌, List, [], ◌∷◌, ◌++◌, length, reverse, Option, Some, None, refl, sym, ap, ◌∙◌, subst, arith}
+use Rattle.std.proofs.Common.{◌≡◌, ℕ, ◌+◌, ◌<◌, ◌≤◌, ◌&&◌, ◌==◌, [], ◌∷◌, ◌++◌, reverse, Option, Some, None, refl, sym, ap, ◌∙◌, subst, arith}
 use Rattle.un_frame.specs.declared.params.Lane.{Lane}
 use Rattle.un_frame.specs.declared.params.Lane.TheVariants.{Outward, Inward}
 use Rattle.un_frame.specs.declared.params.Params.{Params}
 use Rattle.un_frame.specs.declared.kinds.Phase.{Phase}
 use Rattle.un_frame.specs.declared.kinds.Phase.TheVariants.{Up, Asleep, Stopping, Leaving, Down, Away}
 use Rattle.un_endpoint.specs.declared.record.FlightRecord.{FlightRecord}
-use Rattle.un_journal.specs.declared.lines.Line.{Line}
 use Rattle.un_journal.specs.declared.lines.Line.TheVariants.{Settled}
 use Rattle.un_journal.specs.declared.actions.Answer.{Answer}
 use Rattle.un_journal.specs.Script.{Script}
 use Rattle.un_journal.specs.History.{History, past}
 use Rattle.un_journal.specs.Log.{Log}
-use Rattle.un_journal.specs.Lookup.{phase_of, phase_after, after_settled, controls_done, is_asleep, built_frames, tx_home, rx_home}
+use Rattle.un_journal.specs.Lookup.{phase_after, after_settled, controls_done, is_asleep, built_frames, tx_home, rx_home}
 use Rattle.un_journal.specs.LaneSteps.{Writes, lines_in, answer_in, bare}
 use Rattle.un_journal.specs.Step.{Work, settle, settled_line, all_home}
 use Rattle.un_journal.specs.Fits.{Works}
@@ -22,7 +21,7 @@ use Rattle.un_lane.specs.Phases.{Agrees}
 use Rattle.un_lane.specs.Controls.{settled}
 use Rattle.un_lane.specs.Stands.{Stands}
 use Rattle.un_link.specs.Keeps.{AreRead, Keeps}
-use Rattle.un_link.specs.Link.{Link, Holds, Steps, flights_of, lane_flights}
+use Rattle.un_link.specs.Link.{Link, Holds, Steps, lane_flights}
 use Rattle.un_link.proofs.Holding.{act_room, act_logged}
 use Rattle.un_link.proofs.Offers.{pushed}
 

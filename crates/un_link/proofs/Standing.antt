@@ -6,7 +6,6 @@ use Rattle.std.proofs.lemmas.List.{take-append-drop}
 use Rattle.un_frame.proofs.LaneLemmas.{same_lane-refl, same_lane-is}
 use Rattle.un_facts.specs.Numbers.{one_if}
 use Rattle.un_frame.specs.declared.params.Lane.{Lane}
-use Rattle.un_frame.specs.declared.params.Lane.TheVariants.{Outward, Inward}
 use Rattle.un_frame.specs.Lanes.{same_lane}
 use Rattle.un_journal.specs.declared.census.Census.{Census}
 use Rattle.un_journal.specs.declared.lines.Line.{Line}

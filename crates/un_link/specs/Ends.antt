@@ -1,11 +1,9 @@
 -- When a link is finished.
 use Rattle.std.specs.Prelude.{Bool, ◌&&◌, ◌==◌, reverse, length}
-use Rattle.std.specs.List.{list_all}
-use Rattle.un_frame.specs.declared.params.Lane.{Lane}
 use Rattle.un_journal.specs.Script.{Script}
 use Rattle.un_journal.specs.History.{History}
 use Rattle.un_journal.specs.Lookup.{controls_done}
-use Rattle.un_journal.specs.Step.{quiet, is_still, work, offers}
+use Rattle.un_journal.specs.Step.{quiet}
 
 -- it is quiet, and no control is left
 abbrev pub is_finished : Script → History → Bool

@@ -1,5 +1,5 @@
 -- What a control does to the two paths.
-use Rattle.std.specs.Prelude.{◌≡◌, ℕ, ◌+◌}
+use Rattle.std.specs.Prelude.{◌≡◌, ℕ}
 use Rattle.un_frame.specs.declared.params.Lane.TheVariants.{Outward, Inward}
 use Rattle.un_frame.specs.declared.kinds.Phase.{Phase}
 use Rattle.un_journal.specs.declared.controls.Control.{Control as Order}

@@ -1,4 +1,4 @@
-use Rattle.std.proofs.Common.{◌≡◌, ◌&&◌, false, ◌∙◌, sym, ap, refl}
+use Rattle.std.proofs.Common.{◌≡◌, ◌&&◌, false, ◌∙◌, sym}
 use Rattle.std.proofs.lemmas.Bool.{and_right}
 use Rattle.un_journal.specs.Step.{quiet}
 use Rattle.un_link.proofs.Controlling.{not_due_steps, not_forced}
