@@ -5,12 +5,11 @@ use Rattle.hex.specs.Hex.{encode_with}
 use Rattle.un_frame.specs.declared.params.Lane.{Lane}
 use Rattle.un_frame.specs.declared.params.Lane.TheVariants.{Outward, Inward}
 use Rattle.un_frame.specs.declared.params.Class.{Class}
-use Rattle.un_frame.specs.declared.params.Params.{Params}
 use Rattle.un_frame.specs.declared.kinds.FaultKind.{FaultKind}
 use Rattle.un_frame.specs.Parts.{datagram_of}
 use Rattle.un_journal.specs.declared.controls.Planned.{Planned}
-use Rattle.un_journal.specs.Script.{Script, Feeds, Frame}
-use Rattle.un_journal.specs.History.{History, past}
+use Rattle.un_journal.specs.Script.{Script, Frame}
+use Rattle.un_journal.specs.History.{past}
 use Rattle.un_journal.specs.Drain.{drain}
 use Rattle.un_report.specs.Counts.{counts, fed}
 use Rattle.un_report.specs.Report.{item, offered, fates, rest, lane_line, frame_head, delivered_line, lane_part}

@@ -1,13 +1,11 @@
 -- A text in parts, and lines that are written one after another.
-use Rattle.std.proofs.Common.{ℕ, zero, suc, ◌+◌, ◌<◌, ◌≤◌, ◌≡◌, List, [], ◌∷◌, ◌++◌, length, take, drop, codes, decimal, Option, Some, None, slice_get, slice_index_or, refl, sym, ap, ◌∙◌, subst, arith, add-one, append_assoc, append-nil}
+use Rattle.std.proofs.Common.{ℕ, zero, suc, ◌+◌, ◌<◌, ◌≤◌, ◌≡◌, List, [], ◌∷◌, ◌++◌, length, take, drop, codes, Option, Some, slice_get, slice_index_or, refl, sym, ap, ◌∙◌, subst, arith, add-one, append_assoc, append-nil}
 use Rattle.std.specs.List.{flat_map}
 use Rattle.std.proofs.lemmas.List.{take_all, take-append-drop}
-use Rattle.un_frame.specs.Spelling.{lane_word}
 use Rattle.hex.specs.Hex.{encode_lower}
 use Rattle.un_frame.specs.declared.params.Lane.{Lane}
 use Rattle.un_frame.specs.declared.kinds.Phase.{Phase}
 use Rattle.un_frame.specs.declared.params.Lane.TheVariants.{Outward, Inward}
-use Rattle.un_classreq.specs.Setup.{setup_bytes}
 use Rattle.un_setup.specs.declared.exchange.Exchange.{Exchange}
 use Rattle.un_setup.specs.declared.agreement.Agreed.{Agreed}
 use Rattle.un_io.specs.Io.{Stopped}
@@ -17,7 +15,6 @@ use Rattle.un_journal.specs.Lookup.{phase_of}
 use Rattle.un_report.specs.declared.tally.Tally.{Tally}
 use Rattle.un_report.specs.Counts.{counts, fed}
 use Rattle.un_report.specs.Report.{payload_word, opening, control_head, control_line, notify_line, frame_head, delivered_line, frame_line, lane_line, lane_part, lanes, set_up, last_lines, report}
-use Rattle.un_io.proofs.Known.{Stopped-more}
 use Rattle.un_journal.specs.Wrote.{Wrote}
 use Rattle.un_journal.proofs.WroteLemmas.{Wrote-none, Wrote-then, Wrote-stopped, Stopped-longer, first_stopped, second_stopped, both_written}
 

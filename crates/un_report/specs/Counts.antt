@@ -1,5 +1,5 @@
 -- What the lines of a lane, g, the newest first, count to, where un_journal has no word for it.
-use Rattle.std.specs.Prelude.{ℕ, ◌+◌, ◌-◌, ◌*◌, ◌/◌, ◌<◌, ◌≤◌, Bool, true, false, List, [], ◌∷◌, length, Option, Some, None}
+use Rattle.std.specs.Prelude.{ℕ, ◌+◌, ◌-◌, ◌/◌, Bool, true, false, List, [], ◌∷◌, length, Option, Some, None}
 use Rattle.un_frame.specs.declared.kinds.Verdict.{Verdict}
 use Rattle.un_frame.specs.declared.kinds.Verdict.TheVariants.{Short, Long, Filtered}
 use Rattle.un_frame.specs.declared.params.Lane.{Lane}

@@ -1,4 +1,4 @@
-use Rattle.std.proofs.Common.{◌≡◌, ◌+◌, ◌/◌, ◌≤◌, ◌∙◌, refl, sym, arith}
+use Rattle.std.proofs.Common.{◌∙◌, refl, sym, arith}
 use Rattle.un_report.proofs.Lots.{lot_skips, lot_counts, lot_next, lot_ends, few_packets}
 use Rattle.un_report.proofs.lot.count.Goals as goal
 

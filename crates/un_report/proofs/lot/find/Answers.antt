@@ -1,4 +1,4 @@
-use Rattle.std.proofs.Common.{◌≡◌, ◌-◌, length, ap, sym, ◌∙◌, arith}
+use Rattle.std.proofs.Common.{length, ap, sym, ◌∙◌, arith}
 use Rattle.un_report.specs.Counts.{span_size}
 use Rattle.un_report.proofs.Lots.{found, passed}
 use Rattle.un_report.proofs.lot.find.Goals as goal

@@ -1,4 +1,4 @@
-use Rattle.std.proofs.Common.{◌≡◌, ◌≤◌, take}
+use Rattle.std.proofs.Common.{◌≡◌, take}
 use Rattle.un_journal.specs.History.{past, made}
 use Rattle.un_report.proofs.lot.find.Given as goal
 

@@ -1,5 +1,4 @@
 use Rattle.std.proofs.Common.{codes}
-use Rattle.hex.specs.Hex.{encode_lower}
 use Rattle.un_io.proofs.Known.{Stopped-more}
 use Rattle.un_journal.proofs.WroteLemmas.{Wrote-put}
 use Rattle.un_report.specs.Report.{control_head, payload_word}
