@@ -1,7 +1,6 @@
 //! The requests that the device knows.
 
 ghost use Rattle.std.specs.Prelude.{◌≡◌, IsTrue, IfOk};
-ghost use Rattle.un_facts.specs.Numbers.{is_between};
 ghost use Rattle.un_classreq.specs.Control.{has_length, is_asked, named};
 ghost use Rattle.un_classreq.specs.Requests.{ntb_parameters, row};
 ghost use Rattle.un_frame.specs.Params.{AreInRange};
@@ -11,6 +10,7 @@ use crate::setup::Setup;
 use crate::state::State;
 use byteorder::{ByteOrder, LittleEndian};
 use std::alloc::{AllocError, Global};
+use un_facts::between;
 use un_frame::{Class, Params};
 
 /// A request that the device knows.
@@ -126,13 +126,6 @@ fn allowed(holds: bool, next: State) -> Option<State>
     ensures { result ≡ Rattle.un_classreq.specs.Requests.if_allowed holds next }
 {
     if holds { Some(next) } else { None }
-}
-
-/// Whether a number is in a range, both ends included.
-fn between(low: u32, high: u32, number: u32) -> bool
-    ensures { result ≡ is_between low high number }
-{
-    low <= number && number <= high
 }
 
 /// The highest number of a block format: NTB32 is 1, and NTB16 0.

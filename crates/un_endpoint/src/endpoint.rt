@@ -11,6 +11,7 @@ use crate::record::FlightRecord;
 use circular_buffer::HeapCircularBuffer;
 use std::alloc::{AllocError, Global};
 use std::marker::Model;
+use un_facts::{count, spans};
 use un_frame::FaultKind;
 use un_req::Request;
 
@@ -246,10 +247,8 @@ impl Endpoint {
         let _kept = self.largest;
         (
             spans_with(&self.queue, number),
-            self.flight.map_or(
-                0,
-                |flight| (flight.from <= number && number < flight.to) as u32,
-            ),
+            self.flight
+                .map_or(0, |flight| count(spans(flight.from, flight.to, number))),
         )
     }
 }
@@ -258,7 +257,7 @@ impl Endpoint {
 fn has(request: &Request, number: u64) -> bool
     ensures { result ≡ within request.now.from request.now.to number }
 {
-    request.from() <= number && number < request.to()
+    spans(request.from(), request.to(), number)
 }
 
 /// How many of these transfers have a datagram's number in their span.

@@ -5,6 +5,12 @@
 
 ghost use Rattle.un_facts.specs.Laws.{CopiesAddUp};
 
+mod ranges;
+#[cfg(test)]
+mod tests;
+
+pub use ranges::{between, count, spans};
+
 /// A number stands in two lists together as often as in the one and in the other: what counts where each request is rests on this.
 pub fn copies_add_up()
     ensures { CopiesAddUp }

@@ -1,13 +1,13 @@
 //! Where a datagram stands.
 
 ghost use Rattle.std.specs.Prelude.{◌≡◌, ◌<◌, ◌≤◌, ◌+◌, ◌-◌};
-ghost use Rattle.un_facts.specs.Numbers.{one_if};
 ghost use Rattle.un_journal.specs.Census.{NamesPlace, census, nowhere, total};
 ghost use Rattle.un_journal.specs.History.{gave, past, taken};
 ghost use Rattle.un_link.specs.Counts.{gives, in_path};
 
 use crate::link::LinkOver;
 use un_endpoint::{RxEnd, TxEnd};
+use un_facts::count;
 use un_frame::Lane;
 use un_journal::{Census, Journal, Line};
 
@@ -82,11 +82,4 @@ fn gives(line: Line, lane: Lane, number: u64) -> bool
         } => given == lane && next == number,
         _ => false,
     }
-}
-
-/// One for what holds, and else none.
-fn count(holds: bool) -> u32
-    ensures { result ≡ one_if holds }
-{
-    if holds { 1 } else { 0 }
 }
