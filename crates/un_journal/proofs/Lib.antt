@@ -36,15 +36,9 @@ pub mod LaneFacts
 pub mod LinkFacts
 pub mod Examples
 pub mod Entries
-pub mod Hexes
-pub mod Pairing
 pub mod TextLemmas
-pub mod WroteLemmas
-pub mod TextCuts
 pub mod TextReads
-pub mod ReadNumbers
-pub mod ReadWords
-pub mod ReadFields
 pub mod ReadLines
 pub mod ReadEntries
+pub mod TextUnique
 pub mod ReadTraces

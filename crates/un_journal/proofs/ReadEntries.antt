@@ -11,15 +11,14 @@ use Rattle.un_journal.specs.declared.lines.Line.{Line}
 use Rattle.un_journal.specs.declared.lines.Line.TheVariants.{Made, Gave}
 use Rattle.un_journal.specs.History.{Entry, History}
 use Rattle.un_journal.specs.Log.{IsEntry, AreEntries, CarriesItsBytes}
-use Rattle.un_journal.specs.Text.{name_of, words_of, bytes_words, spaced, entry_text}
-use Rattle.un_journal.specs.TraceWords.{words_in, bytes_in}
+use Rattle.un_journal.specs.Text.{name_of, words_of, bytes_words, entry_text}
+use Rattle.un_text.specs.Words.{feeds, spaced, words_in, bytes_in}
 use Rattle.un_journal.specs.TraceLines.{line_of, line_in, entry_with, entry_in}
-use Rattle.un_journal.specs.TraceRead.{feeds}
-use Rattle.un_journal.proofs.TextCuts.{is_glyph, is_plain, are_plain}
+use Rattle.un_text.proofs.TextCuts.{is_glyph, is_plain, are_plain}
 use Rattle.un_journal.proofs.TextReads.{all_words, name_plain, entry_plain, shape}
-use Rattle.un_journal.proofs.ReadWords.{heard, joined, parted}
-use Rattle.un_journal.proofs.ReadFields.{bytes_sound, bytes_back}
-use Rattle.un_journal.proofs.ReadLines.{through, digit_words, line_sound, line_back}
+use Rattle.un_text.proofs.ReadWords.{joined, parted}
+use Rattle.un_text.proofs.ReadFields.{bytes_sound, bytes_back}
+use Rattle.un_journal.proofs.ReadLines.{heard, through, digit_words, line_sound, line_back}
 
 digits_same : (bytes : List ℕ) → digit_words (encode_lower bytes) ≡ bytes_words bytes
 unfolding encode_with

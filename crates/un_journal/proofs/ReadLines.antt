@@ -12,9 +12,18 @@ use Rattle.un_journal.specs.declared.lines.Line.{Line}
 use Rattle.un_journal.specs.declared.lines.Line.TheVariants.{Took, Refused, Made, Waited, Posted, Flying, Landed, Failed, Marked, Cut, Dropped, TxHome, Opened, Gave, Recalled, Cleared, Control, Settled}
 use Rattle.un_journal.specs.Log.{FitsTypes, HasReason, CarriesItsBytes}
 use Rattle.un_journal.specs.Text.{name_of, words_of}
-use Rattle.un_journal.specs.TraceWords.{why_in, flag_in, short_in, long_in, kind_named}
-use Rattle.un_journal.specs.TraceLines.{◌>>=◌, without_bytes, with_bytes, one_named, one_word, two_named, numbered_line, took_line, control_line, two_words, refused_line, failed_line, marked_line, cut_line, gave_line, three_words, dropped_line, settled_line, four_words, made_line, line_of}
-use Rattle.un_journal.proofs.ReadFields.{picked, never, lane_sound, lane_back, why_sound, why_back, kind_sound, kind_back, flag_sound, flag_back, short_sound, short_back, long_sound, long_back}
+use Rattle.un_text.specs.Words.{words_in, why_in, flag_in, short_in, long_in, kind_named}
+use Rattle.un_journal.specs.TraceLines.{◌>>=◌, without_bytes, with_bytes, one_named, one_word, two_named, numbered_line, took_line, control_line, two_words, refused_line, failed_line, marked_line, cut_line, gave_line, three_words, dropped_line, settled_line, four_words, made_line, line_of, line_in}
+use Rattle.un_text.proofs.ReadWords.{words_some}
+use Rattle.un_text.proofs.ReadFields.{picked, never, lane_sound, lane_back, why_sound, why_back, kind_sound, kind_back, flag_sound, flag_back, short_sound, short_back, long_sound, long_back}
+
+pub heard : (text : List ℕ) (words : List (List ℕ)) → words_in text ≡ words → line_in text ≡ line_of words
+unfolding line_in
+heard text words e = rw e refl
+
+-- no line has more than six words
+pub too_many : (a b c d e f rest : List ℕ) → line_of (a ∷ b ∷ c ∷ d ∷ e ∷ f ∷ words_in rest) ≡ None
+too_many a b c d e f rest = let some = words_some rest in rw some.2 refl
 
 -- what a line that is read has: its name and words, and what each entry has
 abbrev pub Says : List ℕ → List (List ℕ) → List ℕ → Line → Type 0

@@ -1,8 +1,7 @@
 -- A trace line after line: what has been read, and the first line that is outside.
-use Rattle.std.proofs.Common.{ℕ, zero, suc, ◌+◌, ◌<◌, ◌≡◌, ◌≢◌, true, false, ◌==◌, List, [], ◌∷◌, ◌++◌, length, take, drop, slice_index, codes, Some, None, ◌⊎◌, inl, inr, refl, sym, ap, ◌∙◌, subst, arith, append_assoc, append-nil, length-append}
+use Rattle.std.proofs.Common.{ℕ, ◌+◌, ◌<◌, ◌≡◌, ◌≢◌, true, false, List, [], ◌∷◌, ◌++◌, length, codes, Some, None, ◌⊎◌, inl, inr, refl, sym, ap, ◌∙◌, subst, arith, append_assoc, append-nil, length-append}
 use Rattle.std.specs.List.{flat_map}
 use Rattle.std.specs.Str.{bytes_eq}
-use Rattle.std.proofs.lemmas.Bool.{eqb-true, false_from_ne_true}
 use Rattle.std.proofs.lemmas.Slice.Eq.{bytes_eq-Decides}
 use Rattle.std.proofs.lemmas.List.{nil_from_length}
 use Rattle.un_facts.proofs.Lists.{same_bytes}
@@ -11,10 +10,11 @@ use Rattle.un_journal.specs.declared.journal.Stored.{Stored}
 use Rattle.un_journal.specs.Log.{IsEntry, AreEntries, entries_of}
 use Rattle.un_journal.specs.Text.{entry_text, trace}
 use Rattle.un_journal.specs.TraceLines.{entry_in}
-use Rattle.un_journal.specs.TraceRead.{BeginsTrace, feeds, IsWhole, IsFirstBad}
+use Rattle.un_journal.specs.TraceRead.{BeginsTrace, IsWhole, IsFirstBad}
+use Rattle.un_text.specs.Words.{feeds}
 use Rattle.un_journal.proofs.Entries.{are_more}
-use Rattle.un_journal.proofs.TextReads.{entries, ends_alone, body, cancel}
 use Rattle.un_journal.proofs.ReadEntries.{line_text_of, entry_sound, entry_complete, feeds_append, line_feeds, entry_line, history_feeds, cut_feed}
+use Rattle.un_journal.proofs.TextUnique.{entries, ends_alone, body, cancel}
 
 -- the lines of some entries, and what is before them
 abbrev pub front : History → List ℕ
@@ -46,7 +46,7 @@ After rest = (k : History) × AreEntries k × (body k ≡ rest)
 
 after : (g h : History) (rest : List ℕ) → AreEntries g → AreEntries h → body h ≡ flat_map entry_text g ++ rest → After rest
 after [] h rest a b e = (h, b, e)
-after (f ∷ g) [] rest a b e = absurd (ends_alone f (flat_map entry_text g ++ rest) (e ∙ append_assoc (entry_text f) (flat_map entry_text g) rest))
+after (f ∷ g) [] rest a b e = absurd (ends_alone f (flat_map entry_text g ++ rest) a.0 (e ∙ append_assoc (entry_text f) (flat_map entry_text g) rest))
 after (f ∷ g) (k ∷ h) rest a b e =
     let m = entries f k (flat_map entry_text g ++ rest) (body h) a.0 b.0
     (sym (append_assoc (entry_text f) (flat_map entry_text g) rest) ∙ sym e ∙ append_assoc (entry_text k) (flat_map entry_text h) (codes "end\n")) in
@@ -159,7 +159,7 @@ ended more k = pick (next_line k.0 (codes "end") more k.1 refl k.2)
     pick (inr entry) = absurd (no_entry entry.0 (entry_sound (codes "end") entry.0 entry.1))
       where
         no_entry : (e : Entry) → IsEntry e × (line_text_of e ≡ codes "end") → ⊥
-        no_entry e r = ends_alone e [] (sym (ap (λ t. t ++ 10 ∷ []) r.1) ∙ sym (entry_line e []))
+        no_entry e r = ends_alone e [] r.0 (sym (ap (λ t. t ++ 10 ∷ []) r.1) ∙ sym (entry_line e []))
 
 pub bad_after : (text : List ℕ) (h : History) (more : List ℕ) → Behind text h (codes "end" ++ 10 ∷ more) → more ≢ [] → IsFirstBad text (length h + 3)
 bad_after text h more b some = record {
@@ -231,23 +231,6 @@ outside text h rest line more b e differs none =
 pub grown : (text : List ℕ) (h g : History) (rest line more : List ℕ) (e : Entry) → Behind text h rest → rest ≡ line ++ 10 ∷ more → entry_in line ≡ Some e → g ≡ h ++ e ∷ [] → Behind text g more × (length g ≡ length h + 1)
 grown text h g rest line more e b r read same =
     (behind_more text h g line more e (rest_as text h rest (line ++ 10 ∷ more) r b) read same, let k = ap length same ∙ length-append h (e ∷ []) in omega (arith, k))
-
--- CUTTING A LINE
-
-pub line_cut : (xs : List ℕ) (i : ℕ) → i < length xs → ((k : ℕ) → k < i → (slice_index xs k == 10) ≡ true → ⊥) → (slice_index xs i == 10) ≡ true
-    → (feeds (take i xs) ≡ 0) × (xs ≡ take i xs ++ 10 ∷ drop (suc i) xs)
-line_cut [] i within before here = absurd (omega arith)
-line_cut (c ∷ cs) zero within before here = (refl, ap (λ d. d ∷ cs) (eqb-true c 10 here))
-line_cut (c ∷ cs) (suc i) within before here =
-    let other = false_from_ne_true (c == 10) (before 0 (omega arith)) in
-    let next = line_cut cs i (omega arith) (λ k h. before (suc k) (omega arith)) here in
-    (rw other next.0, ap (λ t. c ∷ t) next.1)
-
-pub line_none : (xs : List ℕ) → ((k : ℕ) → k < length xs → (slice_index xs k == 10) ≡ true → ⊥) → feeds xs ≡ 0
-line_none [] none = refl
-line_none (c ∷ cs) none =
-    let other = false_from_ne_true (c == 10) (none 0 (omega arith)) in
-    rw other (line_none cs (λ k h. none (suc k) (omega arith)))
 
 pub none_of : (kept : List ℕ) (lines : List Stored) → lines ≡ [] → entries_of kept lines ≡ []
 unfolding entries_of

@@ -5,7 +5,8 @@ use Rattle.std.proofs.lemmas.List.{take_all, take-append-drop}
 use Rattle.hex.specs.Hex.{encode_lower}
 use Rattle.un_journal.specs.declared.lines.Line.{Line}
 use Rattle.un_journal.specs.History.{Entry, History}
-use Rattle.un_journal.specs.Text.{entry_text, trace, name_of, words_of, bytes_words, spaced}
+use Rattle.un_journal.specs.Text.{entry_text, trace, name_of, words_of, bytes_words}
+use Rattle.un_text.specs.Words.{spaced}
 
 pub bytes_text : (bytes : List ℕ) → 0 < length bytes → spaced (bytes_words bytes) ≡ (32 ∷ []) ++ encode_lower bytes
 bytes_text [] h = absurd (omega arith)

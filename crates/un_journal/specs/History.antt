@@ -235,7 +235,7 @@ flight_cuts [] = 0
 flight_cuts ((Cut l k c, bytes) ∷ g) = more_if (flies g k) (flight_cuts g)
 flight_cuts (e ∷ g) = flight_cuts g
 
--- the flights that ended: landed, failed or cut
+-- the transfers that are over: landed, failed or cut
 abbrev pub ends : History → ℕ
 ends [] = 0
 ends ((Landed l k, bytes) ∷ g) = ends g + 1

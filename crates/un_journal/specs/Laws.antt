@@ -83,7 +83,7 @@ abbrev pub SettledIsHome : Type 0
 SettledIsHome = (script : Script) (before after : History) (t1 r1 t2 r2 : ℕ) (bytes : List ℕ)
     → Legal script (before ++ (Settled t1 r1 t2 r2, bytes) ∷ after) → FindsHome script before t1 r1 t2 r2
 
--- without a planned fault or a stop, and awake at the end, everything that was accepted is given
+-- where no fault is planned, each control is a suspend or a resume and the last one no suspend, everything that was accepted is given
 abbrev pub AllIsGiven : Type 0
 AllIsGiven = (script : Script) (h : History) (lane : Lane)
     → AreInRange script.params → LosesNothing script → IsDone script h

@@ -219,10 +219,11 @@ control script h force = control_head script h force (slice_get script.controls 
 
 -- ACTIONS
 
--- an outcome that goes on with another step after the lines that it wrote
+-- the landing of a lane's flight
 abbrev pub landing : Script → Lane → History → Outcome
 landing script lane h = land_flight script lane (past lane h)
 
+-- an outcome that goes on with the landing after the lines that it wrote
 abbrev pub move_after : Script → Lane → History → Outcome → Outcome
 move_after script lane h (Answers answer) = Answers answer
 move_after script lane h (Writes lines) = Writes (lines ++ lines_in (work script (h ++ lines) (Land lane)))

@@ -1,29 +1,12 @@
 -- The text of a history: the line "trace", a line for each entry, and the line "end".
-use Rattle.std.specs.Prelude.{ℕ, Bool, true, false, List, [], ◌∷◌, ◌++◌, codes, decimal}
+use Rattle.std.specs.Prelude.{ℕ, List, [], ◌∷◌, ◌++◌, codes, decimal}
 use Rattle.std.specs.List.{flat_map}
 use Rattle.un_frame.specs.Spelling.{lane_word}
 use Rattle.hex.specs.Hex.{encode_lower}
-use Rattle.un_frame.specs.declared.kinds.FaultKind.{FaultKind}
-use Rattle.un_frame.specs.declared.kinds.FaultKind.TheVariants.{Proto, Halt}
-use Rattle.un_frame.specs.declared.kinds.Verdict.{Verdict}
-use Rattle.un_frame.specs.declared.kinds.Verdict.TheVariants.{Take, Short, Long, Filtered}
+use Rattle.un_text.specs.Words.{verdict_word, kind_word, flag_word, spaced}
 use Rattle.un_journal.specs.declared.lines.Line.{Line}
 use Rattle.un_journal.specs.declared.lines.Line.TheVariants.{Took, Refused, Made, Waited, Posted, Flying, Landed, Failed, Marked, Cut, Dropped, TxHome, Opened, Gave, Recalled, Cleared, Control, Settled}
 use Rattle.un_journal.specs.History.{Entry, History}
-
-abbrev pub verdict_word : Verdict → List ℕ
-verdict_word Take = codes "take"
-verdict_word Short = codes "short"
-verdict_word Long = codes "long"
-verdict_word Filtered = codes "filtered"
-
-abbrev pub kind_word : FaultKind → List ℕ
-kind_word Proto = codes "proto"
-kind_word Halt = codes "halt"
-
-abbrev pub flag_word : Bool → List ℕ
-flag_word true = codes "1"
-flag_word false = codes "0"
 
 -- the first word of a line
 abbrev pub name_of : Line → List ℕ
@@ -71,10 +54,6 @@ words_of (Settled t1 r1 t2 r2) = decimal t1 ∷ decimal r1 ∷ decimal t2 ∷ de
 abbrev pub bytes_words : List ℕ → List (List ℕ)
 bytes_words [] = []
 bytes_words (b ∷ bytes) = encode_lower (b ∷ bytes) ∷ []
-
--- each word behind a space
-abbrev pub spaced : List (List ℕ) → List ℕ
-spaced words = flat_map (λ word. 32 ∷ word) words
 
 unfoldable pub entry_text : Entry → List ℕ
 entry_text (line, bytes) = name_of line ++ spaced (words_of line) ++ spaced (bytes_words bytes) ++ 10 ∷ []

@@ -1,4 +1,5 @@
--- The texts of some histories: an empty one, and one with each kind of line, each lane, verdict and fault.
+-- The texts of some histories: an empty one, and two that have each kind of line between them, each lane, each reason of a refusal and
+-- each fault.
 use Rattle.std.specs.Prelude.{◌≡◌, true, false, [], ◌∷◌, codes, refl}
 use Rattle.hex.specs.Hex.{encode_with}
 use Rattle.std.specs.Fmt.{digits}

@@ -9,7 +9,7 @@ use Rattle.un_journal.specs.declared.lines.Line.TheVariants.{Took, Refused, Made
 use Rattle.un_journal.specs.declared.trace_reader.Unread.{Unread}
 use Rattle.un_journal.specs.declared.trace_reader.Unread.TheVariants.{Outside, NoMemory}
 use Rattle.un_journal.specs.History.{Entry, History}
-use Rattle.un_journal.specs.TraceWords.{words_in, why_in, flag_in, short_in, long_in, bytes_in, kind_named}
+use Rattle.un_text.specs.Words.{words_in, why_in, flag_in, short_in, long_in, bytes_in, kind_named}
 
 infixl 10 ◌>>=◌
 abbrev pub ◌>>=◌ : {A B : Type 0} → Option A → (A → Option B) → Option B

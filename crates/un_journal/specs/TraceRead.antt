@@ -1,10 +1,11 @@
 -- Which text is a history's, and the first line of another text that is outside.
-use Rattle.std.specs.Prelude.{◌≡◌, ℕ, ◌==◌, List, [], ◌∷◌, ◌++◌, length, ◌⊎◌, ◌+◌, filter, Result, Ok, Err}
+use Rattle.std.specs.Prelude.{◌≡◌, ℕ, List, [], ◌∷◌, ◌++◌, ◌⊎◌, ◌+◌, Result, Ok, Err}
 use Rattle.un_journal.specs.declared.trace_reader.TraceError.{TraceError}
 use Rattle.un_journal.specs.declared.trace_reader.TraceError.TheVariants.{BadTrace, NoMemory}
 use Rattle.un_journal.specs.History.{History}
 use Rattle.un_journal.specs.Log.{AreEntries}
 use Rattle.un_journal.specs.Text.{trace}
+use Rattle.un_text.specs.Words.{feeds}
 
 -- the text of some history
 abbrev pub IsTrace : List ℕ → Type 0
@@ -13,10 +14,6 @@ IsTrace text = (h : History) × AreEntries h × (trace h ≡ text)
 -- a beginning of the text of some history
 abbrev pub BeginsTrace : List ℕ → Type 0
 BeginsTrace text = (h : History) × (rest : List ℕ) × AreEntries h × (trace h ≡ text ++ rest)
-
--- how many line feeds there are
-abbrev pub feeds : List ℕ → ℕ
-feeds text = length (filter (λ c. c == 10) text)
 
 -- nothing, or lines with their line feeds
 abbrev pub IsWhole : List ℕ → Type 0

@@ -2,19 +2,30 @@
 
 use un_frame::{Lane, Phase};
 
-/// One action on a link. `Move` is taking a flight, copying its bytes and landing it in one step.
+/// One action on a link.
 #[derive(Clone, Copy, Debug, PartialEq, Eq)]
 pub enum Action {
+    /// Offers the first frame of a sender's feed to the lane. The senders are 0 to 3; any other number has an empty feed.
     Offer { lane: Lane, sender: u32 },
+    /// Lets an open block wait, or makes a transfer of what is built.
     Tick { lane: Lane },
+    /// Takes the first queued transfer as a flight, copies its bytes and lands it, in one step.
     Move { lane: Lane },
+    /// Brings the first done transmit request home.
     TxDone { lane: Lane },
+    /// Makes the first arrived receive request the current one.
     RxDone { lane: Lane },
+    /// Gives the next datagram of the current receive request.
     Deliver { lane: Lane },
+    /// Posts a receive request.
     Refill { lane: Lane },
+    /// Goes on with a stop: marks a transfer, or brings a posted request home.
     Unlink { lane: Lane },
+    /// Clears the halt of the lane's endpoint.
     ClearHalt { lane: Lane },
+    /// Does the script's next control where it is due; with `force` also where it isn't, if the link is quiet.
     Control { force: bool },
+    /// Settles a stop or an unplugging once every request is home.
     Settle,
 }
 

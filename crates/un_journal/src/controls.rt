@@ -5,11 +5,17 @@ use un_frame::{FaultKind, Lane};
 /// A control of a script.
 #[derive(Clone, Copy, Debug, PartialEq, Eq)]
 pub enum Control {
+    /// Lets the link sleep.
     Suspend,
+    /// Wakes it.
     Resume,
+    /// Stops the link, which is down once that is settled.
     Down,
+    /// Brings a link that is down up again.
     Up,
+    /// Marks each transfer that is queued at the lane's endpoint or flies, to be cut.
     Unlink { lane: Lane },
+    /// Stops the link, which is away for good once that is settled.
     Unplug,
 }
 

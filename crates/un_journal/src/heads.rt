@@ -1,56 +1,18 @@
 //! The head of a line: its name and its words, but for the bytes.
 
 ghost use Rattle.std.specs.Prelude.{◌≡◌, ◌+◌, ◌≤◌, ◌∷◌, ◌++◌, length, decimal};
-ghost use Rattle.un_frame.specs.Spelling.{lane_word};
-ghost use Rattle.un_journal.specs.Text.{verdict_word, kind_word, flag_word, name_of, words_of, spaced};
+ghost use Rattle.un_frame.specs.Spelling;
+ghost use Rattle.un_journal.specs.Text.{name_of, words_of};
+ghost use Rattle.un_text.specs.Words.{spaced};
 
-use crate::buffer::{Buffer, number, word};
 use crate::lines::Line;
-use un_frame::{FaultKind, Lane, Verdict};
-
-fn verdict_word(verdict: Verdict) -> &'static [u8]
-    ensures word { result.now ≡ Rattle.un_journal.specs.Text.verdict_word verdict }
-    ensures short { length result.now ≤ 8 }
-{
-    match verdict {
-        Verdict::Take => b"take",
-        Verdict::Short => b"short",
-        Verdict::Long => b"long",
-        Verdict::Filtered => b"filtered",
-    }
-}
-
-fn kind_word(kind: FaultKind) -> &'static [u8]
-    ensures word { result.now ≡ Rattle.un_journal.specs.Text.kind_word kind }
-    ensures short { length result.now ≤ 5 }
-{
-    match kind {
-        FaultKind::Proto => b"proto",
-        FaultKind::Halt => b"halt",
-    }
-}
-
-fn flag_word(flag: bool) -> &'static [u8]
-    ensures word { result.now ≡ Rattle.un_journal.specs.Text.flag_word flag }
-    ensures short { length result.now ≤ 1 }
-{
-    if flag { b"1" } else { b"0" }
-}
-
-fn lane_word(lane: Lane) -> &'static [u8]
-    ensures word { result.now ≡ Rattle.un_frame.specs.Spelling.lane_word lane }
-    ensures short { length result.now ≤ 3 }
-{
-    match lane {
-        Lane::Outward => b"out",
-        Lane::Inward => b"in",
-    }
-}
+use un_frame::Lane;
+use un_text::{Buffer, fault_kind_word, flag_word, lane_word, number, verdict_word, word};
 
 /// A name of at most 9 bytes, and a lane.
 fn lane(buffer: &mut Buffer, name: &[u8], lane: Lane)
     requires { (length buffer.old ≤ 8064) × (length name.now ≤ 9) }
-    ensures text { buffer.new ≡ (buffer.old ++ name.now) ++ 32 ∷ Rattle.un_frame.specs.Spelling.lane_word lane }
+    ensures text { buffer.new ≡ (buffer.old ++ name.now) ++ 32 ∷ Spelling.lane_word lane }
     ensures longer { length buffer.new ≤ length buffer.old + 13 }
 {
     buffer.push(name);
@@ -60,7 +22,7 @@ fn lane(buffer: &mut Buffer, name: &[u8], lane: Lane)
 /// A name of at most 9 bytes, a lane and a number.
 fn one(buffer: &mut Buffer, name: &[u8], at: Lane, n: u64)
     requires { (length buffer.old ≤ 8064) × (length name.now ≤ 9) }
-    ensures text { buffer.new ≡ ((buffer.old ++ name.now) ++ 32 ∷ Rattle.un_frame.specs.Spelling.lane_word at) ++ 32 ∷ decimal n }
+    ensures text { buffer.new ≡ ((buffer.old ++ name.now) ++ 32 ∷ Spelling.lane_word at) ++ 32 ∷ decimal n }
     ensures longer { length buffer.new ≤ length buffer.old + 34 }
 {
     lane(buffer, name, at);
@@ -94,7 +56,7 @@ pub fn head(buffer: &mut Buffer, line: Line)
         Line::Landed { lane, serial } => one(buffer, b"landed", lane, serial),
         Line::Failed { lane, serial, kind } => {
             one(buffer, b"failed", lane, serial);
-            word(buffer, kind_word(kind));
+            word(buffer, fault_kind_word(kind));
         }
         Line::Marked {
             lane,

@@ -72,7 +72,8 @@ pub fn given_is_accepted()
     ensures unchanged { GivenIsUnchanged }
 {}
 
-/// A transfer fails only by the fault plan, and is cut, or its datagrams dropped, only by a control that cuts its lane.
+/// A transfer fails only where the plan has this fault for it and no control marked it. It is cut only by a `down`, an `unplug` or an
+/// `unlink` of its lane, and what is built is dropped only by a `down` or an `unplug`; that control was done before.
 pub fn losses_are_licensed()
     ensures { LossIsLicensed }
 {}
@@ -83,8 +84,8 @@ pub fn settled_is_home()
     ensures { SettledIsHome }
 {}
 
-/// Without planned faults and stops, and awake at the end, a link that is done gave everything that it accepted, and accepted
-/// every frame that is to be taken.
+/// Where no fault is planned, each control is a suspend or a resume and the last one isn't a suspend, a link that is done gave
+/// everything that it accepted, and accepted every frame that is to be taken.
 pub fn nothing_is_lost()
     ensures given { AllIsGiven }
     ensures accepted { AllIsAccepted }
@@ -105,9 +106,10 @@ pub fn bytes_are_bounded()
     ensures { BytesAreBounded }
 {}
 
-/// Every request of a pool is at home or out, and none is counted twice; requests are away exactly where not all are at home.
-/// A receive request that was posted was recalled, left with a flight, or is posted. It is at home, posted, in a flight, or in a
-/// landed transfer of which a datagram isn't given. A `cut` line brings one home exactly where its transfer has a `flying` line.
+/// The counts of each pool add up, and no pool has more at home than it has. Transmit requests are at home, claimed by an open block,
+/// or with a made transfer that isn't home again. Receive requests are at home, posted, in a flight, or in a landed transfer of which
+/// a datagram isn't given; one that was posted was recalled, left with a flight, or is posted. Requests are away exactly where not all
+/// are at home. A `cut` line brings a receive request home exactly where its transfer has a `flying` line.
 pub fn pools_add_up()
     ensures transmit { TransmitAddsUp }
     ensures receive { ReceiveAddsUp }

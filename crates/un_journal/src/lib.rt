@@ -3,10 +3,8 @@
 
 mod actions;
 mod boxed;
-mod buffer;
 mod census;
 mod controls;
-mod digits;
 mod got;
 mod heads;
 mod journal;
@@ -18,14 +16,11 @@ mod tests;
 mod texts;
 mod trace_lines;
 mod trace_reader;
-mod trace_words;
 mod writer;
 
 pub use actions::{Action, Answer};
-pub use buffer::{Buffer, number, word};
 pub use census::Census;
 pub use controls::{Control, Due, Planned};
-pub use digits::decode;
 pub use got::Got;
 pub use journal::Journal;
 pub use laws::{
@@ -38,4 +33,4 @@ pub use lines::Line;
 pub use machine::{Flight, Machine, Transfer};
 pub use texts::{entries_are_read, histories_are_read, traces_are_read};
 pub use trace_reader::{TraceError, read_trace};
-pub use writer::{put, reserve, write_hex, write_trace};
+pub use writer::write_trace;

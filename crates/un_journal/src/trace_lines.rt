@@ -1,12 +1,12 @@
 //! A line of a trace from its words.
 
 ghost use Rattle.std.specs.Prelude.{◌≡◌, ◌∷◌, [], length, MatchOption, Some, None};
-ghost use Rattle.un_journal.specs.TraceWords.{words_in};
+ghost use Rattle.un_text.specs.Words.{words_in};
 ghost use Rattle.un_journal.specs.TraceLines.{one_named, one_word, two_named, took_line, control_line, numbered_line, two_words, refused_line, failed_line, marked_line, cut_line, gave_line, three_words, dropped_line, settled_line, four_words, made_line, line_of, line_in, without_bytes, with_bytes};
 
 use crate::lines::Line;
-use crate::trace_words::{cut_word, flag, is, kind, lane, long, short, why};
 use un_frame::Lane;
+use un_text::{cut_word, fault_kind_named, flag_named, is, lane_named, long, reason_named, short};
 
 /// A line that has nothing but its lane.
 fn one_named(name: &[u8], lane: Lane) -> Option<Line>
@@ -28,7 +28,7 @@ fn one_named(name: &[u8], lane: Lane) -> Option<Line>
 fn one_word(name: &[u8], a: &[u8]) -> Option<Line>
     ensures { result ≡ Rattle.un_journal.specs.TraceLines.one_word name.now a.now }
 {
-    let Some(lane) = lane(a) else {
+    let Some(lane) = lane_named(a) else {
         return None;
     };
     one_named(name, lane)
@@ -54,7 +54,7 @@ fn two_named(name: &[u8], lane: Lane, serial: u64) -> Option<Line>
 fn numbered_line(name: &[u8], a: &[u8], b: &[u8]) -> Option<Line>
     ensures { result ≡ Rattle.un_journal.specs.TraceLines.numbered_line name.now a.now b.now }
 {
-    let Some(lane) = lane(a) else {
+    let Some(lane) = lane_named(a) else {
         return None;
     };
     let Some(serial) = long(b) else {
@@ -67,7 +67,7 @@ fn numbered_line(name: &[u8], a: &[u8], b: &[u8]) -> Option<Line>
 fn took_line(a: &[u8], b: &[u8]) -> Option<Line>
     ensures { result ≡ Rattle.un_journal.specs.TraceLines.took_line a.now b.now }
 {
-    let Some(lane) = lane(a) else {
+    let Some(lane) = lane_named(a) else {
         return None;
     };
     let Some(sender) = short(b) else {
@@ -83,7 +83,7 @@ fn control_line(a: &[u8], b: &[u8]) -> Option<Line>
     let Some(index) = short(a) else {
         return None;
     };
-    let Some(forced) = flag(b) else {
+    let Some(forced) = flag_named(b) else {
         return None;
     };
     Some(Line::Control { index, forced })
@@ -105,13 +105,13 @@ fn two_words(name: &[u8], a: &[u8], b: &[u8]) -> Option<Line>
 fn refused_line(a: &[u8], b: &[u8], c: &[u8]) -> Option<Line>
     ensures { result ≡ Rattle.un_journal.specs.TraceLines.refused_line a.now b.now c.now }
 {
-    let Some(lane) = lane(a) else {
+    let Some(lane) = lane_named(a) else {
         return None;
     };
     let Some(sender) = short(b) else {
         return None;
     };
-    let Some(why) = why(c) else {
+    let Some(why) = reason_named(c) else {
         return None;
     };
     Some(Line::Refused { lane, sender, why })
@@ -121,13 +121,13 @@ fn refused_line(a: &[u8], b: &[u8], c: &[u8]) -> Option<Line>
 fn failed_line(a: &[u8], b: &[u8], c: &[u8]) -> Option<Line>
     ensures { result ≡ Rattle.un_journal.specs.TraceLines.failed_line a.now b.now c.now }
 {
-    let Some(lane) = lane(a) else {
+    let Some(lane) = lane_named(a) else {
         return None;
     };
     let Some(serial) = long(b) else {
         return None;
     };
-    let Some(kind) = kind(c) else {
+    let Some(kind) = fault_kind_named(c) else {
         return None;
     };
     Some(Line::Failed { lane, serial, kind })
@@ -137,7 +137,7 @@ fn failed_line(a: &[u8], b: &[u8], c: &[u8]) -> Option<Line>
 fn marked_line(a: &[u8], b: &[u8], c: &[u8]) -> Option<Line>
     ensures { result ≡ Rattle.un_journal.specs.TraceLines.marked_line a.now b.now c.now }
 {
-    let Some(lane) = lane(a) else {
+    let Some(lane) = lane_named(a) else {
         return None;
     };
     let Some(serial) = long(b) else {
@@ -157,7 +157,7 @@ fn marked_line(a: &[u8], b: &[u8], c: &[u8]) -> Option<Line>
 fn cut_line(a: &[u8], b: &[u8], c: &[u8]) -> Option<Line>
     ensures { result ≡ Rattle.un_journal.specs.TraceLines.cut_line a.now b.now c.now }
 {
-    let Some(lane) = lane(a) else {
+    let Some(lane) = lane_named(a) else {
         return None;
     };
     let Some(serial) = long(b) else {
@@ -177,7 +177,7 @@ fn cut_line(a: &[u8], b: &[u8], c: &[u8]) -> Option<Line>
 fn gave_line(a: &[u8], b: &[u8]) -> Option<Line>
     ensures { result ≡ Rattle.un_journal.specs.TraceLines.gave_line a.now b.now }
 {
-    let Some(lane) = lane(a) else {
+    let Some(lane) = lane_named(a) else {
         return None;
     };
     let Some(number) = long(b) else {
@@ -206,7 +206,7 @@ fn three_words(name: &[u8], a: &[u8], b: &[u8], c: &[u8]) -> Option<Line>
 fn dropped_line(a: &[u8], b: &[u8], c: &[u8], d: &[u8]) -> Option<Line>
     ensures { result ≡ Rattle.un_journal.specs.TraceLines.dropped_line a.now b.now c.now d.now }
 {
-    let Some(lane) = lane(a) else {
+    let Some(lane) = lane_named(a) else {
         return None;
     };
     let Some(from) = long(b) else {
@@ -266,7 +266,7 @@ fn four_words(name: &[u8], a: &[u8], b: &[u8], c: &[u8], d: &[u8]) -> Option<Lin
 fn made_line(a: &[u8], b: &[u8], c: &[u8], d: &[u8]) -> Option<Line>
     ensures { result ≡ Rattle.un_journal.specs.TraceLines.made_line a.now b.now c.now d.now }
 {
-    let Some(lane) = lane(a) else {
+    let Some(lane) = lane_named(a) else {
         return None;
     };
     let Some(serial) = long(b) else {
@@ -313,7 +313,7 @@ fn with_bytes(digits: &[u8], line: Option<Line>) -> Option<(Line, &[u8])>
 }
 
 /// A line of a trace without its line feed, and the word of its bytes, empty where it carries none. The word isn't read yet.
-#[tactic(auto, using(crate::proofs::ReadWords::heard, crate::proofs::ReadWords::too_many))]
+#[tactic(auto, using(crate::proofs::ReadLines::heard, crate::proofs::ReadLines::too_many))]
 pub fn line(text: &[u8]) -> Option<(Line, &[u8])>
     ensures { MatchOption result (line_in text.now ≡ None) (λ p. line_in text.now ≡ Some (p.0, p.1.now)) }
 {

@@ -1,22 +1,20 @@
 //! A history from its text.
 
-ghost use Rattle.std.specs.Prelude.{◌≡◌, ◌+◌, ◌*◌, ◌≤◌, ◌∷◌, ◌++◌, length, take, IfOk, OnOk, MatchOption, MatchResult, vec_len, true, false, Err, ◌-◌};
+ghost use Rattle.std.specs.Prelude.{◌≡◌, ◌*◌, ◌≤◌, ◌++◌, length, take, IfOk, OnOk, MatchOption, MatchResult, vec_len, true, false, Err, ◌-◌};
 ghost use Rattle.std.specs.List.{All, list_any};
 ghost use Rattle.hex.specs.Hex.{decode_of};
 ghost use Rattle.un_journal.specs.Log.{IsStored, entries_of};
 ghost use Rattle.un_journal.specs.Text.{trace};
-ghost use Rattle.un_journal.specs.TraceWords.{is_upper, bytes_in};
+ghost use Rattle.un_text.specs.Words.{is_upper, bytes_in};
 ghost use Rattle.un_journal.specs.TraceLines.{entry_in, BytesRead, EntryRead};
-ghost use Rattle.un_journal.specs.TraceRead.{feeds, TraceReads};
+ghost use Rattle.un_journal.specs.TraceRead.{TraceReads};
 ghost use Rattle.un_journal.specs.declared.trace_reader.TraceError.TheVariants.{BadTrace};
 
-use crate::digits;
 use crate::journal::{Journal, Stored, journal_of};
 use crate::trace_lines::line;
-use crate::trace_words::is;
-use memchr::memchr;
 use std::alloc::Global;
 use thiserror::Error;
+use un_text::{cut_line, is};
 
 /// Why a text wasn't read as a history.
 #[derive(Clone, Copy, Debug, PartialEq, Eq, Error)]
@@ -38,16 +36,6 @@ pub enum Unread {
     NoMemory,
 }
 
-/// The first line, and what is behind its line feed; nothing where there is no line feed.
-fn cut_line(text: &[u8]) -> Option<(&[u8], &[u8])>
-    ensures { MatchOption result (feeds text.now ≡ 0) (λ p. (feeds p.0.now ≡ 0) × (text.now ≡ p.0.now ++ 10 ∷ p.1.now)) }
-{
-    match memchr(b'\n', text) {
-        Some(end) => Some((&text[..end], &text[end + 1..])),
-        None => None,
-    }
-}
-
 /// Whether a word has an upper-case hexadecimal digit.
 fn has_upper(word: &[u8]) -> bool
     ensures { result ≡ list_any is_upper word.now }
@@ -61,7 +49,7 @@ fn decode(bytes: &mut [u8], from: usize, digits: &[u8]) -> bool
     requires room { length digits.now ≡ 2 * (length bytes.old - from) }
     ensures { MatchResult (decode_of digits.now) (λ more. (result ≡ true) × (bytes.new ≡ take from bytes.old ++ more)) (λ _. result ≡ false) }
 {
-    digits::decode(digits, &mut bytes[from..])
+    un_text::decode(digits, &mut bytes[from..])
 }
 
 /// Adds the bytes that lower-case digits spell in pairs.
@@ -109,13 +97,13 @@ fn bad(line: u64) -> Result<Journal, TraceError>
 
 /// Reads the text of a history, as `write_trace` writes it: the line `trace`, a line for each entry, and the line `end`, each
 /// with its line feed, in this very spelling (numbers without leading zeros and within their fields' types, bytes in lower case,
-/// single spaces). The history that is answered is the one that has this text. It goes over the bytes once; the only memory is
-/// that of the history.
+/// single spaces). The history that is answered is the one that has this text. It takes one line after the other; the only
+/// memory is that of the history.
 ///
 /// # Errors
 ///
-/// `BadTrace` exactly where the bytes aren't the text of a history, with the first line that is outside; `NoMemory` where there is
-/// no memory for the history.
+/// `BadTrace` only where the bytes aren't the text of a history, with the first line that is outside; `NoMemory` where there is no
+/// memory for the lines so far. Bytes that aren't the text of a history have one of the two.
 pub fn read_trace(alloc: Global, bytes: &[u8]) -> Result<Journal, TraceError>
     ensures { TraceReads (λ j. j.history) result bytes.now }
 {

@@ -1,25 +1,12 @@
 //! The lines of a report that have a bound on their length.
 
 ghost use Rattle.std.specs.Prelude.{◌≡◌, ◌+◌, ◌≤◌, ◌∷◌, ◌++◌, [], length, decimal, codes};
-ghost use Rattle.un_frame.specs.Spelling.{lane_word, class_word};
 ghost use Rattle.un_report.specs.Counts.{left_over};
 ghost use Rattle.un_report.specs.Report.{phase_word, block_of, class_line, sizes_line, opening, item, offered, fates, rest, lane_line, frame_head, last_lines};
 
 use crate::tally::Tally;
 use un_frame::{Class, Lane, Params, Phase};
-use un_journal::{Buffer, number, word};
-
-fn class_word(class: Class) -> &'static [u8]
-    ensures word { result.now ≡ Rattle.un_frame.specs.Spelling.class_word class }
-    ensures short { length result.now ≤ 5 }
-{
-    match class {
-        Class::Ecm => b"ecm",
-        Class::Eem => b"eem",
-        Class::Ncm16 => b"ncm16",
-        Class::Ncm32 => b"ncm32",
-    }
-}
+use un_text::{Buffer, class_word, lane_word, number, word};
 
 fn phase_word(phase: Phase) -> &'static [u8]
     ensures word { result.now ≡ Rattle.un_report.specs.Report.phase_word phase }
@@ -32,16 +19,6 @@ fn phase_word(phase: Phase) -> &'static [u8]
         Phase::Leaving => b"leaving",
         Phase::Down => b"down",
         Phase::Away => b"away",
-    }
-}
-
-fn lane_word(lane: Lane) -> &'static [u8]
-    ensures word { result.now ≡ Rattle.un_frame.specs.Spelling.lane_word lane }
-    ensures short { length result.now ≤ 3 }
-{
-    match lane {
-        Lane::Outward => b"out",
-        Lane::Inward => b"in",
     }
 }
 
@@ -90,7 +67,7 @@ pub fn push_opening(buffer: &mut Buffer, params: &Params)
     push_sizes(buffer, params);
 }
 
-/// A name of at most 9 bytes and a number of 128 bits: at most 50 bytes.
+/// A name of at most 9 bytes and a number of 128 bits: at most 51 bytes.
 #[tactic(auto, unfolding(crate::specs::Report::item))]
 fn counted(buffer: &mut Buffer, name: &[u8], n: u128)
     requires { (length buffer.old + 51 ≤ 8192) × (length name.now ≤ 9) }

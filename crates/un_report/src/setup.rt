@@ -1,19 +1,17 @@
 //! The part of a report on the set-up.
 
-ghost use Rattle.std.specs.Prelude.{◌≡◌, ◌+◌, ◌≤◌, ◌∷◌, ◌++◌, [], length, codes, OnOk, OnErr};
+ghost use Rattle.std.specs.Prelude.{◌≡◌, ◌≤◌, ◌++◌, length};
 ghost use Rattle.std.specs.List.{flat_map};
-ghost use Rattle.hex.specs.Hex.{encode_lower};
 ghost use Rattle.un_classreq.specs.Setup.{setup_bytes};
-ghost use Rattle.un_io.specs.Io.{Rose, Stopped};
-ghost use Rattle.un_journal.specs.Wrote.{Wrote};
-ghost use Rattle.un_report.specs.Report.{opening, payload_word, control_head, control_line, notify_line, set_up};
+ghost use Rattle.un_report.specs.Report.{payload_word, control_head, control_line, notify_line, set_up};
+ghost use Rattle.un_text.specs.Puts.{Puts};
 
 use crate::lines::push_opening;
 use un_classreq::Setup;
 use un_frame::Bytes;
-use un_io::{Sink, WriteFault};
-use un_journal::{Buffer, put, reserve, write_hex};
+use un_io::Sink;
 use un_setup::{Agreed, Exchange};
+use un_text::{Buffer, Page};
 
 /// The first words of an exchange's line: 25 bytes.
 #[tactic(auto, unfolding(crate::specs::Report::control_head))]
@@ -27,113 +25,62 @@ fn push_setup(buffer: &mut Buffer, setup: Setup)
 }
 
 /// Bytes as a word; a dash where there are none.
-fn write_payload<O: Sink>(out: &mut O, buffer: &mut Buffer, bytes: &[u8]) -> Result<(), WriteFault>
-    ensures written { OnOk result (Wrote (O.held out.old) buffer.old (O.held out.new) buffer.new (payload_word bytes.now)) }
-    ensures stopped { OnErr result (Stopped (O.held out.old) (O.held out.new) (buffer.old ++ payload_word bytes.now)) }
-    ensures never_falls { O.faults out.old ≤ O.faults out.new }
-    ensures cause { OnErr result (Rose (O.faults out.old) (O.faults out.new)) }
+fn put_payload<O: Sink>(out: &mut O, page: &mut Page, bytes: &[u8])
+    ensures { Puts (O.held out.old) (O.faults out.old) page.old (O.held out.new) (O.faults out.new) page.new (payload_word bytes.now) }
 {
     if bytes.len() == 0 {
-        return put(out, buffer, b"-");
+        page.put(out, b"-");
+    } else {
+        page.put_hex(out, bytes);
     }
-    write_hex(out, buffer, bytes)
 }
 
 /// The line of an exchange.
-fn write_control<O: Sink>(
-    out: &mut O,
-    buffer: &mut Buffer,
-    exchange: &Exchange,
-) -> Result<(), WriteFault>
-    ensures written { OnOk result (Wrote (O.held out.old) buffer.old (O.held out.new) buffer.new (control_line exchange.now)) }
-    ensures stopped { OnErr result (Stopped (O.held out.old) (O.held out.new) (buffer.old ++ control_line exchange.now)) }
-    ensures never_falls { O.faults out.old ≤ O.faults out.new }
-    ensures cause { OnErr result (Rose (O.faults out.old) (O.faults out.new)) }
+#[tactic(auto, unfolding(crate::specs::Report::control_line))]
+fn put_control<O: Sink>(out: &mut O, page: &mut Page, exchange: &Exchange)
+    ensures { Puts (O.held out.old) (O.faults out.old) page.old (O.held out.new) (O.faults out.new) page.new (control_line exchange.now) }
 {
-    let Ok(()) = reserve(out, buffer, 64) else {
-        return Err(WriteFault);
-    };
-    push_setup(buffer, exchange.setup);
-    let Ok(()) = write_payload(out, buffer, exchange.payload.as_slice()) else {
-        return Err(WriteFault);
-    };
-    let Ok(()) = put(out, buffer, b"\n") else {
-        return Err(WriteFault);
-    };
-    Ok(())
+    page.reserve(out, 64);
+    push_setup(&mut page.pending, exchange.setup);
+    put_payload(out, page, exchange.payload.as_slice());
+    page.put(out, b"\n");
 }
 
 /// The line of a notification.
-fn write_note<O: Sink>(out: &mut O, buffer: &mut Buffer, note: &[u8]) -> Result<(), WriteFault>
-    ensures written { OnOk result (Wrote (O.held out.old) buffer.old (O.held out.new) buffer.new (notify_line note.now)) }
-    ensures stopped { OnErr result (Stopped (O.held out.old) (O.held out.new) (buffer.old ++ notify_line note.now)) }
-    ensures never_falls { O.faults out.old ≤ O.faults out.new }
-    ensures cause { OnErr result (Rose (O.faults out.old) (O.faults out.new)) }
+#[tactic(auto, unfolding(crate::specs::Report::notify_line))]
+fn put_note<O: Sink>(out: &mut O, page: &mut Page, note: &[u8])
+    ensures { Puts (O.held out.old) (O.faults out.old) page.old (O.held out.new) (O.faults out.new) page.new (notify_line note.now) }
 {
-    let Ok(()) = put(out, buffer, b"notify ") else {
-        return Err(WriteFault);
-    };
-    let Ok(()) = write_hex(out, buffer, note) else {
-        return Err(WriteFault);
-    };
-    let Ok(()) = put(out, buffer, b"\n") else {
-        return Err(WriteFault);
-    };
-    Ok(())
+    page.put(out, b"notify ");
+    page.put_hex(out, note);
+    page.put(out, b"\n");
 }
 
 /// The lines of all exchanges.
-fn write_controls<O: Sink>(
-    out: &mut O,
-    buffer: &mut Buffer,
-    exchanges: &[Exchange],
-) -> Result<(), WriteFault>
-    ensures written { OnOk result (Wrote (O.held out.old) buffer.old (O.held out.new) buffer.new (flat_map control_line exchanges.now)) }
-    ensures stopped { OnErr result (Stopped (O.held out.old) (O.held out.new) (buffer.old ++ flat_map control_line exchanges.now)) }
-    ensures never_falls { O.faults out.old ≤ O.faults out.new }
-    ensures cause { OnErr result (Rose (O.faults out.old) (O.faults out.new)) }
+fn put_controls<O: Sink>(out: &mut O, page: &mut Page, exchanges: &[Exchange])
+    ensures { Puts (O.held out.old) (O.faults out.old) page.old (O.held out.new) (O.faults out.new) page.new (flat_map control_line exchanges.now) }
 {
     for exchange in exchanges {
-        let Ok(()) = write_control(out, buffer, exchange) else {
-            return Err(WriteFault);
-        };
+        put_control(out, page, exchange);
     }
-    Ok(())
 }
 
 /// The lines of all notifications.
-fn write_notes<O: Sink>(out: &mut O, buffer: &mut Buffer, notes: &[Bytes]) -> Result<(), WriteFault>
-    ensures written { OnOk result (Wrote (O.held out.old) buffer.old (O.held out.new) buffer.new (flat_map notify_line notes.now)) }
-    ensures stopped { OnErr result (Stopped (O.held out.old) (O.held out.new) (buffer.old ++ flat_map notify_line notes.now)) }
-    ensures never_falls { O.faults out.old ≤ O.faults out.new }
-    ensures cause { OnErr result (Rose (O.faults out.old) (O.faults out.new)) }
+fn put_notes<O: Sink>(out: &mut O, page: &mut Page, notes: &[Bytes])
+    ensures { Puts (O.held out.old) (O.faults out.old) page.old (O.held out.new) (O.faults out.new) page.new (flat_map notify_line notes.now) }
 {
     for note in notes {
-        let Ok(()) = write_note(out, buffer, note.as_slice()) else {
-            return Err(WriteFault);
-        };
+        put_note(out, page, note.as_slice());
     }
-    Ok(())
 }
 
-/// What was agreed on, and what crossed meanwhile, into an empty buffer.
-pub fn write_setup<O: Sink>(
-    out: &mut O,
-    buffer: &mut Buffer,
-    agreed: &Agreed,
-) -> Result<(), WriteFault>
-    requires { buffer.old ≡ [] }
-    ensures written { OnOk result (Wrote (O.held out.old) buffer.old (O.held out.new) buffer.new (set_up agreed.now)) }
-    ensures stopped { OnErr result (Stopped (O.held out.old) (O.held out.new) (buffer.old ++ set_up agreed.now)) }
-    ensures never_falls { O.faults out.old ≤ O.faults out.new }
-    ensures cause { OnErr result (Rose (O.faults out.old) (O.faults out.new)) }
+/// What was agreed on, and what crossed meanwhile.
+#[tactic(auto, unfolding(crate::specs::Report::set_up))]
+pub fn put_setup<O: Sink>(out: &mut O, page: &mut Page, agreed: &Agreed)
+    ensures { Puts (O.held out.old) (O.faults out.old) page.old (O.held out.new) (O.faults out.new) page.new (set_up agreed.now) }
 {
-    push_opening(buffer, &agreed.params);
-    let Ok(()) = write_controls(out, buffer, agreed.exchanges.as_slice()) else {
-        return Err(WriteFault);
-    };
-    let Ok(()) = write_notes(out, buffer, agreed.notes.as_slice()) else {
-        return Err(WriteFault);
-    };
-    Ok(())
+    page.reserve(out, 1200);
+    push_opening(&mut page.pending, &agreed.params);
+    put_controls(out, page, agreed.exchanges.as_slice());
+    put_notes(out, page, agreed.notes.as_slice());
 }

@@ -37,6 +37,7 @@ pub struct Tally {
     pub dropped: u128,
     /// Packets of the transfers that landed.
     pub packets: u128,
+    /// Frames accepted or refused, by sender.
     pub consumed: Consumed,
 }
 

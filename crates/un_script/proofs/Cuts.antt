@@ -1,23 +1,30 @@
--- The first line of a text and the first word of a line, cut at the first end.
-use Rattle.std.proofs.Common.{ℕ, zero, suc, ◌<◌, ◌≡◌, true, ◌==◌, List, [], ◌∷◌, length, take, drop, slice_index, refl, arith}
-use Rattle.std.proofs.lemmas.Bool.{false_from_ne_true}
+-- The first line of a text, cut at its line feed.
+use Rattle.std.proofs.Common.{ℕ, ◌+◌, ◌<◌, ◌≡◌, Bool, true, false, ◌==◌, if◌then◌else◌, List, [], ◌∷◌, ◌++◌, length, filter, refl, arith}
+use Rattle.un_text.specs.Words.{feeds}
 use Rattle.un_script.specs.Words.{lines_of}
 
-pub lines_cut : (xs : List ℕ) (i : ℕ) → i < length xs → ((k : ℕ) → k < i → (slice_index xs k == 10) ≡ true → ⊥) → (slice_index xs i == 10) ≡ true
-    → lines_of xs ≡ take i xs ∷ lines_of (drop (suc i) xs)
-unfolding lines_of
-lines_cut [] i within before here = absurd (omega arith)
-lines_cut (c ∷ cs) zero within before here = rw here refl
-lines_cut (c ∷ cs) (suc i) within before here =
-    let other = false_from_ne_true (c == 10) (before 0 (omega arith)) in
-    let next = lines_cut cs i (omega arith) (λ k h. before (suc k) (omega arith)) here in
-    rw (other, next) refl
+-- no line feed first, and none later
+no_feed : (c : ℕ) (cs : List ℕ) → feeds (c ∷ cs) ≡ 0 → ((c == 10) ≡ false) × (feeds cs ≡ 0)
+no_feed c cs none = pick (c == 10) none
+  where
+    pick : (b : Bool) → length (if b then c ∷ filter (λ d. d == 10) cs else filter (λ d. d == 10) cs) ≡ 0 → (b ≡ false) × (feeds cs ≡ 0)
+    pick true e = absurd (omega (arith, e))
+    pick false e = (refl, e)
 
-pub lines_whole : (xs : List ℕ) → 0 < length xs → ((k : ℕ) → k < length xs → (slice_index xs k == 10) ≡ true → ⊥) → lines_of xs ≡ xs ∷ []
+line_cut : (line rest : List ℕ) → feeds line ≡ 0 → lines_of (line ++ 10 ∷ rest) ≡ line ∷ lines_of rest
+unfolding lines_of
+line_cut [] rest none = refl
+line_cut (c ∷ line) rest none =
+    let parts = no_feed c line none in
+    rw (parts.0, line_cut line rest parts.1) refl
+
+pub lines_cut : (text line rest : List ℕ) → feeds line ≡ 0 → text ≡ line ++ 10 ∷ rest → lines_of text ≡ line ∷ lines_of rest
+lines_cut text line rest none e = rw e (line_cut line rest none)
+
+pub lines_whole : (text : List ℕ) → 0 < length text → feeds text ≡ 0 → lines_of text ≡ text ∷ lines_of []
 unfolding lines_of
 lines_whole [] some none = absurd (omega arith)
-lines_whole (c ∷ []) some none = let other = false_from_ne_true (c == 10) (none 0 (omega arith)) in rw other refl
+lines_whole (c ∷ []) some none = let parts = no_feed c [] none in rw parts.0 refl
 lines_whole (c ∷ d ∷ ds) some none =
-    let other = false_from_ne_true (c == 10) (none 0 (omega arith)) in
-    let next = lines_whole (d ∷ ds) (omega arith) (λ k h. none (suc k) (omega arith)) in
-    rw (other, next) refl
+    let parts = no_feed c (d ∷ ds) none in
+    rw (parts.0, lines_whole (d ∷ ds) (omega arith) parts.1) refl

@@ -6,7 +6,7 @@ use Rattle.std.specs.List.{list_any}
 use Rattle.std.specs.Prelude.{codes}
 use Rattle.std.specs.Result.{result_ok}
 use Rattle.std.specs.Str.{bytes_eq}
-use Rattle.un_journal.specs.TraceWords.{kind_named, words_in}
+use Rattle.un_text.specs.Words.{kind_named, words_in}
 use Rattle.un_frame.specs.Spelling.{class_named, lane_named}
 use Rattle.un_facts.specs.Results.{◌>>=◌, needs, given}
 use Rattle.hex.specs.declared.error.FromHexError.{FromHexError}

@@ -1,6 +1,5 @@
 pub mod Cuts
 pub mod Decoded
-pub mod Digits
 pub mod Heard
 pub mod Ranges
 pub mod Standings

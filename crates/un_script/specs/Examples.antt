@@ -1,6 +1,6 @@
 -- Scripts, and texts that are none.
 use Rattle.std.specs.Prelude.{◌≡◌, [], ◌∷◌, codes, Ok, Err, refl}
-use Rattle.un_journal.specs.TraceWords.{words_in, number_from}
+use Rattle.un_text.specs.Words.{words_in, number_from}
 use Rattle.hex.specs.Hex.{decode_pairs}
 use Rattle.un_frame.specs.declared.params.Class.TheVariants.{Ncm16}
 use Rattle.un_frame.specs.declared.params.Lane.TheVariants.{Outward, Inward}

@@ -1,16 +1,16 @@
 -- Numbers and bytes as texts.
-use Rattle.std.specs.Prelude.{ℕ, Bool, ◌&&◌, nat_le, List, length, slice_index, Option, Some, None, if◌then◌else◌}
+use Rattle.std.specs.Prelude.{ℕ, List, slice_index, Option, Some, None}
 use Rattle.std.specs.Result.{result_ok}
-use Rattle.un_journal.specs.TraceWords.{is_numeral, number_from}
+use Rattle.un_text.specs.Words.{number_in}
 use Rattle.hex.specs.Hex.{decode_of, decode_sized}
 
--- one to ten digits, without leading zeros
-abbrev pub is_number : List ℕ → Bool
-is_number word = is_numeral word && nat_le (length word) 10
+-- the greatest number of ten digits
+abbrev pub MOST_NUMBER : ℕ
+MOST_NUMBER = 9999999999
 
--- the number that a word is
+-- the number that a word of one to ten digits is, without leading zeros
 abbrev pub number_of : List ℕ → Option ℕ
-number_of word = if is_number word then Some (number_from 0 word) else None
+number_of word = number_in MOST_NUMBER word
 
 -- the bytes that pairs of hexadecimal digits of either case are
 abbrev pub bytes_of : List ℕ → Option (List ℕ)

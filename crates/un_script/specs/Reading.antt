@@ -1,7 +1,7 @@
 -- What a script's lines say, and why a line is refused. Each line's tests stand in the order of the reasons: word, order, number, hex, range, count, control, fault.
 use Rattle.std.specs.Prelude.{◌≡◌, ℕ, ◌+◌, ◌&&◌, ◌==◌, nat_lt, not, List, [], ◌∷◌, ◌++◌, length, codes, Option, Some, None, is_some, Result, Ok, Err, if◌then◌else◌}
 use Rattle.std.specs.Str.{bytes_eq}
-use Rattle.un_journal.specs.TraceWords.{kind_named, words_in}
+use Rattle.un_text.specs.Words.{kind_named, words_in}
 use Rattle.un_frame.specs.Spelling.{class_named, lane_named}
 use Rattle.un_facts.specs.Results.{◌>>=◌, needs, given}
 use Rattle.un_frame.specs.declared.params.Class.TheVariants.{Ecm}

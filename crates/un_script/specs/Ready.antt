@@ -22,8 +22,8 @@ is_planned_for lane serial fault = same_lane fault.lane lane && fault.serial == 
 abbrev pub faults_for : List Planned → Lane → ℕ → ℕ
 faults_for faults lane serial = length (filter (is_planned_for lane serial) faults)
 
--- The parameters are in their ranges, each frame has bytes, each control can follow the earlier ones, each planned fault has a serial
--- in its range, no transfer has two, and there are no more of each than a script may have.
+-- The parameters are in their ranges, each frame has bytes, each control can follow the earlier ones and waits for a number in its range,
+-- each planned fault has a serial in its range, no transfer has two, and there are no more of each than a script may have.
 pub record IsReady (script : Script) : Type 0 where
   pub in_range : AreInRange script.params
   pub outward : FeedsHaveBytes script.outward

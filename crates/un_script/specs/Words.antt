@@ -1,7 +1,7 @@
 -- Lines of a text, and words of a line.
 use Rattle.std.specs.Prelude.{ℕ, Bool, true, ◌&&◌, ◌==◌, nat_le, not, List, [], ◌∷◌, length, if◌then◌else◌}
 use Rattle.std.specs.List.{list_all, list_any}
-use Rattle.un_journal.specs.TraceWords.{onto_first, words_in}
+use Rattle.un_text.specs.Words.{onto_first, words_in}
 
 abbrev pub LINE_FEED : ℕ
 LINE_FEED = 10

@@ -7,18 +7,19 @@ ghost use Rattle.un_script.specs.declared.why.Why.TheVariants.{Hex};
 ghost use Rattle.un_script.specs.Numbers.{bytes_of};
 ghost use Rattle.un_script.specs.Reading.{Gives, ReadGives, now_at, class_line, number_line, filter_line, requests_line, frame_line, control_line, fault_line, words_read, line_read, script_of};
 
-use crate::lines::{cut_line, cut_word, is_skipped, is_spelled};
+use crate::lines::{first_line, is_skipped, is_spelled};
 use crate::numbers::{byte, number};
 use crate::script::Script;
 use crate::standing::stands_after;
 use crate::table::{
-    class_named, control_named, defaults, is, is_allowed, is_filter, is_pool_size, kind_named,
-    lane_named, may_follow, parameter_named, place_of, unlink_named, with_number,
+    control_named, defaults, is_allowed, is_filter, is_pool_size, may_follow, parameter_named,
+    place_of, unlink_named, with_number,
 };
 use crate::why::{Refused, ScriptError, Why};
 use std::alloc::Global;
 use un_frame::{Bytes, Class};
-use un_journal::{Control, Due, decode};
+use un_journal::{Control, Due};
+use un_text::{class_named, cut_word, decode, fault_kind_named, is, lane_named};
 
 const CLASS: u8 = 1;
 
@@ -244,7 +245,7 @@ fn fault_line(script: &mut Script, place: u8, l: &[u8], k: &[u8], f: &[u8]) -> R
     let Some(lane) = lane_named(l) else {
         return refuse(Why::Word);
     };
-    let Some(kind) = kind_named(f) else {
+    let Some(kind) = fault_kind_named(f) else {
         return refuse(Why::Word);
     };
     if !may_follow(place, BODY) {
@@ -371,7 +372,7 @@ pub fn read(alloc: Global, bytes: &[u8]) -> Result<Script, ScriptError>
     let mut number = 1;
     let mut rest = bytes;
     while !rest.is_empty() {
-        let (line, more) = cut_line(rest);
+        let (line, more) = first_line(rest);
         if !is_skipped(line) {
             match read_line(alloc, &mut script, place, line) {
                 Ok(next) => place = next,

@@ -111,7 +111,7 @@ impl Model for Script {
 }
 
 impl Script {
-    /// A script with no frames, controls and faults. It keeps the allocator for those that are added.
+    /// A script with no frames, controls and faults, for parameters in their ranges. It keeps the allocator for those that are added.
     #[tactic(auto, using(crate::proofs::Readiness::empty_ready), unfolding(crate::specs::Parts::standing_from))]
     pub fn make(alloc: Global, params: Params) -> Script
         requires { AreInRange params }
@@ -128,7 +128,7 @@ impl Script {
         }
     }
 
-    /// What each script has: its parameters are in their ranges, each frame has bytes, each control can follow the earlier ones, each planned fault has a serial of 0 to 65,535, no lane and serial has two faults, and there are no more of each than it may have.
+    /// What each script has: its parameters are in their ranges, each frame has bytes, each control can follow the earlier ones and waits for 0 to 65,536 datagrams, each planned fault has a serial of 0 to 65,535, no lane and serial has two faults, and there are no more of each than it may have.
     pub fn is_ready(&self)
         ensures { IsReady self.now }
     {
@@ -179,8 +179,8 @@ impl Script {
         self.standing
     }
 
-    /// Adds a frame at the end of a sender's feed. After the error, which is want of memory, the script is unchanged and the
-    /// frame is given up.
+    /// Adds a frame of at least one byte at the end of the feed of a sender (0 to 3), where there are fewer than 65,536 frames. After
+    /// the error, which is want of memory, the script is unchanged and the frame is given up.
     #[tactic(auto, using(crate::proofs::Readiness::frame_ready, crate::proofs::Readiness::one_more))]
     pub fn add_frame(&mut self, lane: Lane, sender: u32, frame: Bytes) -> Result<(), AllocError>
         requires sender { IsTrue (is_sender sender) }
@@ -199,8 +199,8 @@ impl Script {
         Ok(())
     }
 
-    /// Adds a control behind the others, which it has to be able to follow. After the error, which is want of memory, the
-    /// script is unchanged.
+    /// Adds a control behind the others, of which there are fewer than 256 and which it has to be able to follow; it waits for 0 to
+    /// 65,536 datagrams. After the error, which is want of memory, the script is unchanged.
     #[tactic(auto, using(crate::proofs::Standings::standing_more, crate::proofs::Readiness::control_ready))]
     pub fn add_control(&mut self, due: Due) -> Result<(), AllocError>
         requires want { IsTrue (is_want due.want) }
@@ -217,7 +217,8 @@ impl Script {
         Ok(())
     }
 
-    /// Plans a fault for a transfer that has none planned. After the error, which is want of memory, the script is unchanged.
+    /// Plans a fault for a transfer (of the serials 0 to 65,535) that has none planned, where there are fewer than 1,024 faults. After
+    /// the error, which is want of memory, the script is unchanged.
     pub fn add_fault(&mut self, lane: Lane, serial: u64, kind: FaultKind) -> Result<(), AllocError>
         requires serial { IsTrue (is_planned_serial serial) }
         requires room { length self.old.faults < MOST_FAULTS }

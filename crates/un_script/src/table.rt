@@ -1,15 +1,13 @@
 //! The words, places and ranges of a script's lines, and the parameters where no line says others.
 
 ghost use Rattle.std.specs.Prelude.{◌≡◌, ◌<◌, ◌^◌, IsTrue};
-ghost use Rattle.std.specs.Str.{bytes_eq};
-ghost use Rattle.un_journal.specs.TraceWords.{kind_named};
-ghost use Rattle.un_frame.specs.Spelling.{class_named, lane_named};
 ghost use Rattle.un_frame.specs.Params.{most_block};
 ghost use Rattle.un_script.specs.Table.{control_named, parameter_named, place_of, may_follow, is_allowed, is_filter, is_pool_size, with_number, defaults};
 ghost use Rattle.un_script.specs.Reading.{unlink_named};
 
-use un_frame::{Class, FaultKind, Lane, Params};
+use un_frame::{Class, Params};
 use un_journal::Control;
+use un_text::{is, lane_named};
 
 /// A parameter whose line is its name and one number.
 #[derive(Clone, Copy, Debug, PartialEq, Eq)]
@@ -21,56 +19,6 @@ pub enum Parameter {
     Divisor,
     Remainder,
     Alignment,
-}
-
-/// Whether two words are the same.
-pub fn is(word: &[u8], name: &[u8]) -> bool
-    ensures { result ≡ bytes_eq word.now name.now }
-{
-    word == name
-}
-
-/// The class of a word.
-pub fn class_named(word: &[u8]) -> Option<Class>
-    ensures { result ≡ Rattle.un_frame.specs.Spelling.class_named word.now }
-{
-    if is(word, b"ecm") {
-        Some(Class::Ecm)
-    } else if is(word, b"eem") {
-        Some(Class::Eem)
-    } else if is(word, b"ncm16") {
-        Some(Class::Ncm16)
-    } else if is(word, b"ncm32") {
-        Some(Class::Ncm32)
-    } else {
-        None
-    }
-}
-
-/// The lane of a word.
-pub fn lane_named(word: &[u8]) -> Option<Lane>
-    ensures { result ≡ Rattle.un_frame.specs.Spelling.lane_named word.now }
-{
-    if is(word, b"out") {
-        Some(Lane::Outward)
-    } else if is(word, b"in") {
-        Some(Lane::Inward)
-    } else {
-        None
-    }
-}
-
-/// The kind of a planned fault.
-pub fn kind_named(word: &[u8]) -> Option<FaultKind>
-    ensures { result ≡ Rattle.un_journal.specs.TraceWords.kind_named word.now }
-{
-    if is(word, b"proto") {
-        Some(FaultKind::Proto)
-    } else if is(word, b"halt") {
-        Some(FaultKind::Halt)
-    } else {
-        None
-    }
 }
 
 /// The control of one word.

@@ -6,11 +6,11 @@ use thiserror::Error;
 /// The first reason that applies to a line that is refused.
 #[derive(Clone, Copy, Debug, PartialEq, Eq)]
 pub enum Why {
-    /// A byte is outside printable ASCII, a word is empty, or the first word, the number of words or a fixed word (class, lane, control, kind) is none of the table.
+    /// A byte is outside printable ASCII, a word is empty, or the first word, the number of words or a fixed word (class, lane, control, kind) is none of the table; or each line is skipped, and the class line lacks.
     Word,
     /// The class line isn't first, or a parameter's line repeats or stands after a later one's or a line of the body.
     Order,
-    /// A number isn't one to ten digits, or begins with a zero.
+    /// A number isn't one to ten digits, or has a zero before another digit.
     Number,
     /// A number or a filter is outside its range.
     Range,
@@ -51,7 +51,7 @@ pub enum Refused {
 /// Why a text wasn't read as a script.
 #[derive(Clone, Copy, Debug, PartialEq, Eq, Error)]
 pub enum ScriptError {
-    /// The first line that is refused, counted from 1, and why. Where each line is skipped, it is the one after the last.
+    /// The first line that is refused, counted from 1, and why. Where each line is skipped, it is the one after the last, for `Word`.
     #[error("bad script {line} {why}")]
     BadLine { line: u64, why: Why },
     /// There was no memory for the script.

@@ -59,7 +59,8 @@ pub fn plain_command<I: Source, O: Sink>(
     }
 }
 
-/// The commands do their work wherever they can.
+/// Where the words are a command, its grammar reads the input, which has at most 16,777,216 bytes, the parameters of a script agree, no
+/// read and no write fails, and memory suffices, the status is 0: the input was read to its end and the whole output written.
 pub fn command_is_complete()
     ensures serial { IsComplete }
     ensures decode { DecodeIsComplete }

@@ -3,7 +3,6 @@
 ghost use Rattle.std.specs.Prelude.{◌≡◌, ◌+◌, ◌≤◌, ◌++◌, [], length, OnOk, OnErr};
 ghost use Rattle.std.specs.Io.KnownBytes.{Appends};
 ghost use Rattle.un_io.specs.Io.{Rose, Stopped};
-ghost use Rattle.un_journal.specs.Wrote.{Wrote};
 ghost use Rattle.usbnet_run.specs.Decode.{
   Decodes,
   bad_transfer_line,
@@ -15,29 +14,16 @@ ghost use Rattle.usbnet_run.specs.Decode.{
   head_text,
 };
 ghost use Rattle.usbnet_run.specs.Refusals.{Tells};
-ghost use Rattle.usbnet_run.specs.Words;
+ghost use Rattle.un_text.specs.Puts.{Puts};
 
 use crate::command::tell;
 use un_frame::{Class, Fault, Kind};
-use un_io::{Sink, WriteFault, write_whole};
-use un_journal::{Buffer, number, put, reserve, word, write_hex};
+use un_io::{Sink, WriteFault};
+use un_text::{Buffer, Page, class_word, number, word};
 use un_wire::{Parts, read};
 
 /// The bytes that the words of a line have at most, but for a frame's digits.
 const WORDS: usize = 64;
-
-/// The word of a class.
-fn class_word(class: Class) -> &'static [u8]
-    ensures word { result.now ≡ Rattle.un_frame.specs.Spelling.class_word class }
-    ensures short { length result.now ≤ 5 }
-{
-    match class {
-        Class::Ecm => b"ecm",
-        Class::Eem => b"eem",
-        Class::Ncm16 => b"ncm16",
-        Class::Ncm32 => b"ncm32",
-    }
-}
 
 /// The word of a fault's kind.
 fn kind_word(kind: Kind) -> &'static [u8]
@@ -107,52 +93,26 @@ fn push_commands(buffer: &mut Buffer, commands: u64)
 }
 
 /// The line of a frame, its digits straight from where the frame stands.
-fn write_frame<O: Sink>(
-    out: &mut O,
-    buffer: &mut Buffer,
-    index: u64,
-    frame: &[u8],
-) -> Result<(), WriteFault>
-    ensures written { OnOk result (Wrote (O.held out.old) buffer.old (O.held out.new) buffer.new (frame_line index frame.now)) }
-    ensures stopped { OnErr result (Stopped (O.held out.old) (O.held out.new) (buffer.old ++ frame_line index frame.now)) }
-    ensures never_falls { O.faults out.old ≤ O.faults out.new }
-    ensures cause { OnErr result (Rose (O.faults out.old) (O.faults out.new)) }
+fn put_frame<O: Sink>(out: &mut O, page: &mut Page, index: u64, frame: &[u8])
+    ensures { Puts (O.held out.old) (O.faults out.old) page.old (O.held out.new) (O.faults out.new) page.new (frame_line index frame.now) }
 {
-    let Ok(()) = reserve(out, buffer, WORDS) else {
-        return Err(WriteFault);
-    };
-    push_frame_head(buffer, index, frame.len() as u64);
-    let Ok(()) = write_hex(out, buffer, frame) else {
-        return Err(WriteFault);
-    };
-    let Ok(()) = put(out, buffer, b"\n") else {
-        return Err(WriteFault);
-    };
-    Ok(())
+    page.reserve(out, WORDS);
+    push_frame_head(&mut page.pending, index, frame.len() as u64);
+    page.put_hex(out, frame);
+    page.put(out, b"\n");
 }
 
 /// A line for each frame that is left, with indices from 0 on.
-fn write_frames<O: Sink>(
-    out: &mut O,
-    buffer: &mut Buffer,
-    parts: &mut Parts,
-    count: u64,
-) -> Result<(), WriteFault>
+fn put_frames<O: Sink>(out: &mut O, page: &mut Page, parts: &mut Parts, count: u64)
     requires { count ≡ length parts.old.frames }
-    ensures written { OnOk result (Wrote (O.held out.old) buffer.old (O.held out.new) buffer.new (frame_lines 0 parts.old.frames)) }
-    ensures stopped { OnErr result (Stopped (O.held out.old) (O.held out.new) (buffer.old ++ frame_lines 0 parts.old.frames)) }
-    ensures never_falls { O.faults out.old ≤ O.faults out.new }
-    ensures cause { OnErr result (Rose (O.faults out.old) (O.faults out.new)) }
+    ensures { Puts (O.held out.old) (O.faults out.old) page.old (O.held out.new) (O.faults out.new) page.new (frame_lines 0 parts.old.frames) }
 {
     for index in 0..count {
         let Some(frame) = parts.next() else {
-            return Ok(());
+            return;
         };
-        let Ok(()) = write_frame(out, buffer, index, frame) else {
-            return Err(WriteFault);
-        };
+        put_frame(out, page, index, frame);
     }
-    Ok(())
 }
 
 /// Adds the text of a transfer that was read to a sink. At a write fault the sink has grown by a front of that text, and not by all of it.
@@ -165,19 +125,12 @@ fn write_decoded<O: Sink>(out: &mut O, class: Class, parts: &mut Parts) -> Resul
 {
     let commands = parts.commands();
     let count = parts.count();
-    let mut buffer = Buffer::make();
-    push_head(&mut buffer, class, count);
-    let Ok(()) = write_frames(out, &mut buffer, parts, count) else {
-        return Err(WriteFault);
-    };
-    let Ok(()) = reserve(out, &mut buffer, WORDS) else {
-        return Err(WriteFault);
-    };
-    push_commands(&mut buffer, commands);
-    let Ok(()) = write_whole(out, buffer.as_slice()) else {
-        return Err(WriteFault);
-    };
-    Ok(())
+    let mut page = Page::blank();
+    push_head(&mut page.pending, class, count);
+    put_frames(out, &mut page, parts, count);
+    page.reserve(out, WORDS);
+    push_commands(&mut page.pending, commands);
+    page.finish(out)
 }
 
 /// Decodes one transfer of a class. The status is 0 where the grammar of the class reads the bytes and the text of its frames was

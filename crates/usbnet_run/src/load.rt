@@ -14,12 +14,13 @@ use std::alloc::{AllocError, Global};
 use std::sync::Wait;
 use std::thread::Threads;
 use un_io::{Sink, WriteFault, write_whole};
-use un_journal::{Buffer, Journal, number};
+use un_journal::Journal;
 use un_link::Link;
 use un_report::{Tally, go_over};
 use un_script::{Script, generate};
 use un_setup::agree;
 use un_share::Gate;
+use un_text::{Buffer, number};
 
 /// The bytes of a load's packets.
 const PACKET: u32 = 512;

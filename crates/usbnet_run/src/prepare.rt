@@ -12,10 +12,10 @@ use crate::command::tell;
 use std::alloc::Global;
 use un_frame::Params;
 use un_io::Sink;
-use un_journal::{Buffer, number, word};
 use un_link::Link;
 use un_script::{Script, ScriptError, Why, read};
 use un_setup::{Agreed, SetupFault, agree};
+use un_text::{Buffer, number, word};
 
 /// A new link, and what its two ends agreed on.
 #[derive(Drop)]

@@ -61,7 +61,8 @@ pub fn usbnet_main<R: Threads + Wait + Sync, I: Source, O: Sink, G: Gate + Sync>
     }
 }
 
-/// A run does its work wherever it can.
+/// Where the words ask for a run, the input is a script of at most 16,777,216 bytes whose parameters agree, no read and no write fails,
+/// and memory suffices, the status is 0: the input was read to its end and the whole output of one history written, which is done.
 pub fn run_is_complete()
     ensures { RunIsComplete }
 {}

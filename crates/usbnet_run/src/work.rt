@@ -17,7 +17,7 @@ const WORKERS: u32 = 11;
 /// Lets all workers run a link out of which nothing flies, under one turn, and drains what they leave. Whatever order the seats win the
 /// turn in, the link has its script, and its history is what the drain makes of a legal history of it out of which nothing flies: so
 /// its clauses say. That it is the one history which was kept under the turn is how this is built: the link moves into the turn and
-/// out of it again. The error is want of memory; `make` alone can answer it, before any worker starts.
+/// out of it again. The error is want of memory, and comes before any worker starts.
 pub(crate) fn work<R: Threads + Wait + Sync, G: Gate + Sync>(
     rt: &R,
     alloc: Global,

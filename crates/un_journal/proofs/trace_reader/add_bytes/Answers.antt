@@ -1,5 +1,5 @@
 use Rattle.std.proofs.Common.{length, ◌/◌, ap, sym, ◌∙◌, arith}
-use Rattle.un_journal.proofs.ReadFields.{upper_bytes, odd_bytes, filled, taken_all}
+use Rattle.un_text.proofs.ReadFields.{upper_bytes, odd_bytes, filled, taken_all}
 use Rattle.un_journal.proofs.trace_reader.add_bytes.Goals as goal
 use Rattle.un_journal.proofs.trace_reader.add_bytes.Goals.{then-has_upper-via-then-has_upper, then-has_upper-via-else-has_upper+then-digits-ne0}
 

@@ -1,5 +1,0 @@
-use Rattle.un_journal.proofs.Pairing.{SoFar}
-use Rattle.un_journal.proofs.digits.decode.Given as goal
-
-abbrev pub invariant-loop-index : goal.invariant-loop-index
-invariant-loop-index l = SoFar l.good l.digits l.to l.index

@@ -1,9 +1,0 @@
-use Rattle.std.proofs.Common.{◌≡◌, ◌<◌, ◌^◌, drop}
-use Rattle.un_journal.specs.TraceWords.{number_from}
-use Rattle.un_script.proofs.numbers.number.Given as goal
-
-abbrev pub invariant-loop-digit : goal.invariant-loop-digit
-invariant-loop-digit l = record {
-  value : number_from l.value (drop l.digit-index l.word) ≡ number_from 0 l.word;
-  bound : l.value < 10 ^ l.digit-index;
-}

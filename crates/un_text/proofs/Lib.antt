@@ -1,0 +1,7 @@
+pub mod Putting
+pub mod Hexes
+mod Pairing
+pub mod TextCuts
+pub mod ReadNumbers
+pub mod ReadWords
+pub mod ReadFields
