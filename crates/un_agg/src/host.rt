@@ -22,7 +22,7 @@ use un_wire::{Codec, Wire};
 const PATIENCE: u32 = 3;
 
 /// Builds the host's transfers (after Linux's cdc_ncm): it holds an open block in a request that it claimed of the lane's pool, or the one frame that the last block had no room for,
-/// or nothing. A pending count of 0 to 3 says how many ticks an open block still waits for. No call after `make` takes memory.
+/// or nothing. A pending count says how many ticks an open block still waits for; the code sets it to 3, and lowers it. No call after `make` takes memory.
 #[derive(Drop)]
 pub struct HostAgg {
     block: OpenBlock,

@@ -9,9 +9,11 @@ use byteorder::{ByteOrder, LittleEndian};
 /// The set-up packet of a control transfer, which the host sends (USB 2.0, 9.3).
 #[derive(Clone, Copy, Debug, PartialEq, Eq)]
 pub struct Setup {
-    /// Bit 7 is set where the device answers with bytes; the others say whose request it is, and to whom.
+    /// Bit 7 is set where the device answers with bytes; the others say whose request it is, and to whom (USB 2.0, table 9-2).
     pub request_type: u8,
+    /// The code of the request.
     pub request: u8,
+    /// The request's parameter: what it is differs by request.
     pub value: u16,
     /// The number of an interface, where the request is to one.
     pub index: u16,

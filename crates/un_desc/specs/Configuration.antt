@@ -45,8 +45,8 @@ CAPABILITIES = 9
 abbrev pub ncm_bytes : List ℕ
 ncm_bytes = 6 ∷ 0x24 ∷ 0x1a ∷ 0x00 ∷ 0x01 ∷ CAPABILITIES ∷ []
 
--- class codes of interfaces (CDC 1.2, 4.2 and 4.5), subclass codes (ECM 1.2, EEM 1.0 and NCM 1.0, each 4), and the
--- protocols of EEM and of NCM's data interface
+-- class codes of interfaces (CDC 1.2, 4.2 and 4.5), and subclass codes (ECM 1.2, EEM 1.0 and NCM 1.0, each 4); the
+-- protocols, 7 of EEM and 1 of NCM's data interface, stand in the configurations below
 abbrev pub COMMUNICATIONS : ℕ
 COMMUNICATIONS = 0x02
 

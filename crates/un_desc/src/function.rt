@@ -14,6 +14,7 @@ pub enum FunctionKind {
 /// A networking function, as a configuration describes it.
 #[derive(Clone, Copy, Debug, PartialEq, Eq)]
 pub struct Function {
+    /// Which of the three it is.
     pub kind: FunctionKind,
     /// The number of the control interface.
     pub control: u8,

@@ -37,8 +37,8 @@ pub fn append(request: &mut Request, frame: &[u8])
     request.push(&SENTINEL);
 }
 
-/// Ends a transfer: appends the empty packet where the length is a multiple of the bus's packet size, so that the last packet on
-/// the bus is a short one (EEM 1.0, 5.1.2). The request has room for 2 bytes more.
+/// Ends a transfer: appends the empty packet where the length is a multiple of the bus's packet size, in bytes, so that with packets
+/// of more than 2 bytes the last one on the bus is short (EEM 1.0, 5.1.2). The request has room for 2 bytes more.
 pub fn finish(request: &mut Request, packet: u32)
     requires packet { 1 ≤ packet }
     requires room { length request.old.bytes + 2 ≤ request.old.capacity }

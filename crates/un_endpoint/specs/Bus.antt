@@ -22,7 +22,7 @@ record_of trip = record {
   rx_capacity = trip.rx_capacity;
 }
 
--- the receive request before and after the copy
+-- the receive request after the copy
 abbrev pub received : Trip → Buffer
 received trip = record trip.tx { number = trip.rx; capacity = trip.rx_capacity }
 
@@ -66,7 +66,7 @@ abbrev pub flying_serial : Option FlightRecord → Option ℕ
 flying_serial None = None
 flying_serial (Some flight) = Some flight.serial
 
--- the transfers that aren't marked: of the queue all but the first, and the flight where it has no mark
+-- the transfers that aren't marked: of the queue all but the marked ones at its front, and the flight where it has no mark
 abbrev pub unmarked_count : Bus → ℕ
 unmarked_count bus = length bus.queue - length bus.marks + one_if (is_some bus.flight && not (is_some bus.flight_mark))
 

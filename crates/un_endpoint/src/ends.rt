@@ -135,7 +135,8 @@ pub trait RxEnd {
         ensures some { IfSome result (λ lent. IsLent (receiver self.now) lent.0 lent.1.now) }
         ensures none { IfNone result ((receiver self.now).current ≡ None) };
 
-    /// Goes on to the datagram after it, and answers true where it was the last one; the request is then home.
+    /// Goes on past the datagram that `lend` gives, of the current request, and answers true where it was the last one; the request is
+    /// then home.
     fn advance(&mut self) -> bool
         requires { is_some (receiver self.old).current ≡ true }
         ensures { Steps (receiver self.old) (receiver self.new) result };

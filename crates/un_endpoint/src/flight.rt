@@ -73,7 +73,7 @@ impl Flight {
         }
     }
 
-    /// Copies the bytes packet by packet (`packet` is 8 to 1,024 bytes), and the span and the serial. This takes no turn, no endpoint and no memory.
+    /// Copies the bytes packet by packet (`packet` is 8 bytes or more), and the span and the serial. This takes no turn, no endpoint and no memory.
     pub fn carry(self, packet: u32) -> Carried
         requires { 8 ≤ packet }
         ensures { result ≡ self }

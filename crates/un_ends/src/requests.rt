@@ -10,7 +10,7 @@ use std::marker::Model;
 use un_endpoint::spans_with;
 use un_req::{Pool, Request};
 
-/// Requests of an end in their order: the first goes out first. The room for as many as the end has is reserved when it is made, and no later call takes memory.
+/// Requests of an end in their order: the first goes out first. Its room is reserved when it is made, and no later call takes memory.
 #[derive(Drop)]
 pub struct Requests {
     ring: HeapCircularBuffer<Request>,

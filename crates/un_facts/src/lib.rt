@@ -1,6 +1,7 @@
 //! The small words and facts that every crate of this repository may cite, and that std doesn't have: a test as a number, spans and
-//! ranges of numbers, empty lists, how often a number stands in a list, tests in order over `Result` (specs/); and on these, on tests and
-//! on lists the lemmas that more than one crate needs (proofs/, by subject). All are over plain variables and know nothing of a link.
+//! ranges of numbers, empty lists, how often a number stands in a list, tests in order over `Result` (specs/); the calls `spans`,
+//! `between` and `count`, which make these tests and the number of a test; and on these, on tests and on lists the lemmas that more
+//! than one crate needs (proofs/, by subject). All are over plain variables and know nothing of a link.
 #![tactic(auto)]
 
 ghost use Rattle.un_facts.specs.Laws.{CopiesAddUp};
@@ -11,7 +12,8 @@ mod tests;
 
 pub use ranges::{between, count, spans};
 
-/// A number stands in two lists together as often as in the one and in the other: what counts where each request is rests on this.
+/// How often a number stands in two lists one after the other is the sum of how often it stands in each: what counts where each
+/// request is rests on this.
 pub fn copies_add_up()
     ensures { CopiesAddUp }
 {}

@@ -17,7 +17,7 @@ pub fn spans(from: u64, to: u64, number: u64) -> bool
     from <= number && number < to
 }
 
-/// One for what holds, and else none.
+/// 1 where it holds, and else 0, for sums.
 pub fn count(holds: bool) -> u32
     ensures { result ≡ one_if holds }
 {

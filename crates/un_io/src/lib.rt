@@ -1,7 +1,7 @@
 //! Bytes in and bytes out, with counts of faults.
 //!
 //! A [`Source`] gives bytes and a [`Sink`] takes them. Each counts its faults, so that a failure can be laid to it, and
-//! tells contracts its bytes where it can. All of this is this project's own.
+//! tells contracts its bytes where it can.
 #![tactic(auto)]
 
 mod copy;

@@ -5,8 +5,8 @@ ghost use Rattle.std.specs.Prelude.{◌≡◌};
 use crate::traits::{Failed, Sink, Source};
 use std::io::{Read, Write};
 
-/// Gives what a reader of std gives, and tells the bytes that the reader tells. Its count rises by one at each error, up to the
-/// greatest u64.
+/// Gives what a reader of std gives, and tells the bytes that the reader tells. Its count rises at each error; in the code by one,
+/// up to the greatest u64.
 #[derive(Drop)]
 pub struct StdSource<R> {
     inner: R,
@@ -39,8 +39,8 @@ impl<R: Read> Source for StdSource<R> {
     }
 }
 
-/// Hands bytes to a writer of std, and tells the bytes that the writer tells. Its count rises by one at each error, up to the
-/// greatest u64. A write of nothing is an error.
+/// Hands bytes to a writer of std, and tells the bytes that the writer tells. Its count rises at each error; in the code by one,
+/// up to the greatest u64. That the writer takes no byte is an error.
 #[derive(Drop)]
 pub struct StdSink<W> {
     inner: W,

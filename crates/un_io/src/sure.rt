@@ -8,7 +8,7 @@ use crate::copy::give;
 use crate::traits::{Failed, Sink, Source};
 use std::marker::Model;
 
-/// Gives bytes from memory, in each call all that the buffer has room for. Its count is 0 for good: it never fails.
+/// Gives bytes from memory; the code gives in each call as many as the buffer has room for. Its count is 0 for good: it never fails.
 #[derive(Drop)]
 pub struct SureSource {
     bytes: Vec<u8>,
@@ -51,7 +51,8 @@ impl Source for SureSource {
     }
 }
 
-/// Takes all bytes, keeps none, and tells only how many there were. Its count is 0 for good: it never fails.
+/// Tells only how many bytes it was given; the code takes all of them in each call, and keeps none. Its count is 0 for good: it never
+/// fails.
 #[derive(Drop)]
 pub struct SureSink {
     given: u64,
@@ -65,7 +66,7 @@ impl SureSink {
         SureSink { given: 0 }
     }
 
-    /// How many bytes it was given; the greatest u64 where there were more.
+    /// How many bytes it was given in all calls; the greatest u64 where there were more.
     pub fn given(&self) -> u64
         ensures { result ≡ self.now.given }
     {

@@ -68,8 +68,9 @@ fn read_more<I: Source>(
     Ok(count)
 }
 
-/// Reads a source to its end and answers all bytes that it gave in this call. Where it gives more than `limit` bytes, it is read
-/// until it gave `limit + 1` of them and the answer is `TooLarge`. Where a read fails, the answer is `ReadFault`.
+/// Reads a source to its end and answers all bytes that it gave in this call, `limit` at most. An error is `TooLarge` where it gave
+/// `limit + 1` bytes, and then it is read no further; `ReadFault` where a read failed, after `limit` bytes at most; `NoMemory` where
+/// there was no memory for the bytes, after `limit + 1` of them at most.
 pub fn read_whole<I: Source>(alloc: Global, input: &mut I, limit: u64) -> Result<Vec<u8>, ReadError>
     ensures given { (given : List ℕ) × Consumes (I.left input.old) (I.left input.new) given
         × ReadsWhole (λ v. v.items) limit given (I.left input.new) result }
@@ -92,7 +93,7 @@ pub fn read_whole<I: Source>(alloc: Global, input: &mut I, limit: u64) -> Result
     }
 }
 
-/// Adds all of the bytes to a sink. Where a write fails, a front of them was added, and not all.
+/// Adds all of the bytes to a sink. The error comes only where a write failed; then a front of them was added, and not all.
 pub fn write_whole<O: Sink>(out: &mut O, bytes: &[u8]) -> Result<(), WriteFault>
     ensures written { OnOk result (Appends (O.held out.old) (O.held out.new) bytes.now) }
     ensures stopped { OnErr result (Stopped (O.held out.old) (O.held out.new) bytes.now) }

@@ -1,4 +1,4 @@
--- Whether a lane is still, and what a frame that is offered to it would do.
+-- Whether a lane is still: by its lines, and by what its path has.
 use Rattle.std.specs.Prelude.{ℕ, Bool, true, false, ◌&&◌, ◌||◌, ◌==◌, List, [], ◌∷◌, length, is_some, if◌then◌else◌, not}
 use Rattle.std.specs.List.{list_all}
 use Rattle.un_facts.specs.Lists.{is_empty}

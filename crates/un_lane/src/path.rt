@@ -16,6 +16,7 @@ use un_frame::Lane;
 
 /// One lane of a link: a transmitting end, an endpoint and a receiving end, the number of datagrams that were accepted and that of transfers that were made. Contracts see it as a `Way`
 /// and say that it stands for the lane's lines in a journal. No call after `make` takes memory, and none reads the journal.
+/// A call that writes needs room in the journal for the lines of its step and their bytes.
 #[derive(Drop)]
 pub struct Path<T: TxEnd + Drop, R: RxEnd + Drop> {
     lane: Lane,

@@ -6,7 +6,7 @@ use std::marker::Model;
 use un_endpoint::{Carried, Flight};
 use un_frame::Lane;
 
-/// A flight with its lane, and the packet size (8 to 1,024 bytes) in which it is copied. It is a moved value that can't be dropped: it is carried exactly once.
+/// A flight with its lane, and the packet size (in bytes, at least 8) in which it is copied. It is a moved value that can't be dropped: it is carried exactly once.
 pub struct LinkFlight {
     pub(crate) lane: Lane,
     pub(crate) packet: u32,

@@ -172,8 +172,8 @@ fn refuses_changed_blocks(rt: HostRuntime) {
     }
 }
 
-/// A block's header that names index 12, and 33 tables of 16 bytes from there on, each with a null pair. Each but the
-/// last names the next, and so does not the one after which `tables` are there.
+/// A block's header that names index 12, and 33 tables of 16 bytes from there on, each with null pairs alone. Each of the first
+/// `tables` names the next but the last, which names none.
 fn chain(tables: u16) -> [u8; 540] {
     let mut bytes = [0u8; 540];
     bytes[..12].copy_from_slice(b"NCMH\x0c\0\0\0\0\0\x0c\0");

@@ -69,8 +69,9 @@ impl<const WIDTH: usize> Writer<WIDTH> {
     ghost use Rattle.un_ntb.specs.Writer.{most_datagrams};
 
     /// A writer with no open block. `limit` is the most datagrams of a block, with 0 for no limit, and `block` the most
-    /// bytes. It takes the memory for where the datagrams stand, of as many as a block of these sizes can hold and the limit
-    /// allows (`most`), and no later call takes any; an error is want of memory.
+    /// bytes: 2,048 to 65,535 in NTB16, and to 262,144 in NTB32. Of the layout (NCM 1.0, table 6-3) `divisor` is 1 to 64,
+    /// `remainder` is below it, and `alignment` is 1 to 64. It takes the memory for where the datagrams stand, of as many as
+    /// a block of these sizes can hold and the limit allows (`most`), and no later call takes any; an error is want of memory.
     pub fn make(
         alloc: Global,
         limit: u32,
@@ -155,8 +156,8 @@ impl<const WIDTH: usize> Writer<WIDTH> {
             )
     }
 
-    /// Appends a frame that fits, with zeros before it up to its place. The request's bytes are those that the last call
-    /// left: the header and the datagrams so far.
+    /// Appends a frame of 14 bytes at least that fits the open block, with zeros before it up to its place. The request's
+    /// bytes are those that the last call left: the header and the datagrams so far.
     #[tactic(auto, using(un_layout::proofs::Near::place_near))]
     pub fn append(&mut self, request: &mut Request, frame: &[u8])
         requires opened { self.old.is_open ≡ true }
@@ -179,8 +180,8 @@ impl<const WIDTH: usize> Writer<WIDTH> {
         self.end = at + frame.len() as u32;
     }
 
-    /// Ends the block: appends its table at its place and writes the fields of the header that were left at 0, the
-    /// sequence number among them, which is the serial modulo 65,536.
+    /// Ends the open block, which has a datagram at least: appends its table at its place and writes the fields of the
+    /// header that were left at 0, the sequence number among them, which is the serial modulo 65,536.
     #[tactic(auto, using(un_layout::proofs::Near::multiple_near))]
     pub fn close(&mut self, request: &mut Request, serial: u64)
         requires opened { self.old.is_open ≡ true }

@@ -5,7 +5,7 @@ ghost use Rattle.un_packet.specs.Packets.{packet_bytes};
 
 use un_req::Request;
 
-/// How many packets a transfer of `length` bytes has, for packets of at most `packet` bytes (8 to 1,024): the full ones and the
+/// How many packets a transfer of `length` bytes has, for packets of at most `packet` bytes (8 or more): the full ones and the
 /// short one that ends the transfer, which may be empty (USB 2.0, 5.8.3; that it always comes is this project's own).
 pub fn packets(length: u64, packet: u32) -> u64
     requires { 8 ≤ packet }

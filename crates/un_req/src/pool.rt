@@ -7,8 +7,9 @@ use crate::request::Request;
 use std::alloc::{AllocError, Global};
 use std::marker::Model;
 
-/// A pool of requests of one capacity. It holds those that are home; as a request can't be cloned, each number below
-/// the count is home or in one value outside. No call after `make` takes memory.
+/// A pool of requests of one capacity, which holds those that are home. A request can't be cloned: where each comes back to the
+/// pool that it was taken from, each number below the count is home or in one value outside at most. No clause says so: `put` tells
+/// requests by number and capacity alone. No call after `make` takes memory.
 #[derive(Drop)]
 pub struct Pool {
     home: Vec<Request>,
@@ -28,7 +29,8 @@ impl Model for Pool {
 }
 
 impl Pool {
-    /// A pool of `count` requests of `capacity` bytes each, all home, with the numbers below `count`. An error is want of memory.
+    /// A pool of `count` requests (at least 1) of `capacity` bytes each, all home, with the numbers below `count`. An error is want of
+    /// memory.
     pub fn make(alloc: Global, count: u32, capacity: u32) -> Result<Pool, AllocError>
         requires { 1 ≤ count }
         ensures { IfOk result (λ p. p ≡ record { count = count; capacity = capacity; home = upto count }) }
@@ -52,7 +54,7 @@ impl Pool {
         self.home.pop()
     }
 
-    /// Takes back a request that is out of this pool, by its number, and empties it.
+    /// Takes back a request that is out of this pool, by its number and its capacity, and empties it.
     pub fn put(&mut self, request: Request)
         requires { IsOut self.old request }
         ensures { self.new ≡ record self.old { home = self.old.home ++ request.number ∷ [] } }

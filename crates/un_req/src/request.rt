@@ -70,7 +70,7 @@ impl Request {
         self.to
     }
 
-    /// The serial of its transfer, from 0 in each lane.
+    /// The serial of its transfer, as it was stamped.
     pub fn serial(&self) -> u64
         ensures { result ≡ self.now.serial }
     {

@@ -5,7 +5,7 @@ use thiserror::Error;
 use un_desc::Function;
 use un_frame::Params;
 
-/// What the two ends of a link agreed on, and how.
+/// What the two ends of a link agreed on, and how, as `agree` answers it.
 #[derive(Drop)]
 pub struct Agreed {
     /// The parameters, which agree.
@@ -18,8 +18,8 @@ pub struct Agreed {
     pub notes: Notes,
 }
 
-/// Why there is no agreement: the first that applies, of NCM alone (the fields are those of NCM 1.0,
-/// table 6-3).
+/// Why there is no agreement. The first three are of NCM alone, and the first of them that applies comes (the fields are those of
+/// NCM 1.0, table 6-3); want of memory is of every class.
 #[derive(Clone, Copy, Debug, PartialEq, Eq, Error)]
 pub enum SetupFault {
     /// The divisor isn't a power of two from 1 to 64, or the remainder isn't below it.

@@ -42,9 +42,9 @@ fn cross(alloc: Global, device: &mut Device, step: &Exchange) -> Result<Exchange
 }
 
 /// Takes the steps of a host in turn at a device, and answers what crossed: each set-up packet with the device's bytes, where
-/// it asks for some, and else with the host's. Nothing is known of the device but what it answers. `Stalled` comes exactly
-/// where the device stalls at a step, with its reason, and `NoMemory` only where memory ran out; the device is then as the
-/// steps before left it.
+/// it asks for some, and else with the host's. Nothing is known of the device but what it answers. `Stalled` comes only
+/// where the device stalls at a step, with its reason, and `NoMemory` only where memory ran out, at whichever step; the device is
+/// then as the steps before left it.
 pub fn exchange_steps(
     alloc: Global,
     device: &mut Device,
@@ -105,10 +105,10 @@ fn set_up(alloc: Global, params: &Params) -> Result<Agreed, AllocError>
     })
 }
 
-/// Sets a link up: tests the parameters, which are in their ranges, and then lets a host and a new device exchange all
-/// requests of the class, one by one. In the answer is what crossed, the function that the host read from the configuration
-/// that crossed, and the notifications that the device then sends: each is what a device of these parameters answers to the
-/// host's steps in turn (`set_up`), and is as the tables of the class say (`agreed`).
+/// Sets a link up: tests the parameters, which are in their ranges, and then lets a host and a new device exchange the
+/// requests that a host sends to its class, one by one. In the answer is what crossed, the function that the host read from
+/// the configuration that crossed, and the notifications that the device then sends: each is what a device of these
+/// parameters answers to the host's steps in turn (`set_up`), and is as the tables of the class say (`agreed`).
 ///
 /// Of NCM `BadDivisor` comes exactly where the divisor isn't a power of two from 1 to 64 or the remainder isn't below it;
 /// else `BadAlignment` exactly where the alignment isn't a power of two from 4 to 64; else `NoFit` exactly where a block

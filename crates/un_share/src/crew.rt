@@ -128,10 +128,12 @@ fn crew<R: Threads + Wait + Sync, S, T: Shop<S, Place = P> + Sync, P: Send + Dro
     shop.join(others, mine)
 }
 
-/// Runs the eleven workers, each in a thread of its own with a seat of its own, until the machine is finished or each has given up.
-/// The seat has at least 11 shares and knows no flight. Afterwards it has the shares it had and knows no
+/// Runs the eleven workers, each with a seat of its own and in a thread of its own (where the system has none to give, another worker's
+/// thread does its work), until the machine is finished or each has given up; that they end isn't promised. The seat has at least 11
+/// shares and knows no flight. Afterwards it has the shares it had and knows no
 /// flight, and what it has seen begins with what it had seen; and what it has seen has a beginning at which the machine is
-/// finished, or it has at least 720,896 calls more, which is 65,536 for each worker. It takes no memory and refuses nothing.
+/// finished, or it has at least 720,896 calls more, which is 65,536 for each worker. It refuses nothing, and takes no memory but
+/// what the system takes for the threads.
 pub fn run_workers<
     R: Threads + Wait + Sync,
     M: Machine<Act = Action, Ans = Answer> + Send,

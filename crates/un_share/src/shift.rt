@@ -6,7 +6,8 @@ use crate::rota::Rota;
 use std::sync::Wait;
 use un_journal::{Action, Answer};
 
-/// The looks at the bell before a sleep: at first, at least and at most. A look takes some 50 ns.
+/// The looks at the bell before a sleep: at first, at least and at most. A look took some 50 ns where
+/// this was tried out.
 const FIRST_LOOKS: u32 = 4000;
 
 const LEAST_LOOKS: u32 = 16;

@@ -117,7 +117,7 @@ impl Machine for Queue {
 }
 
 impl Queue {
-    /// A queue of so many items, of which none was offered yet.
+    /// A queue of so many items, fewer than 1,000,000, of which none was offered yet. The error is want of memory.
     pub fn make(alloc: Global, limit: u64) -> Result<Queue, AllocError>
         requires { limit < 1000000 }
         ensures { IfOk result (λ q. (q.plan ≡ limit) × (q.journal.history ≡ []) × (flights_of q.flown q.landed ≡ [])) }

@@ -44,7 +44,7 @@ impl<M: Machine> Model for Turn<M> {
 
 impl<M: Machine> Turn<M> {
     /// A turn over a machine with no flight out, with so many shares (1 to 2^32 - 1), and the first seat, which has them all and
-    /// has seen the machine's history. `AllocError` comes where memory is wanted, and the machine is then given up.
+    /// has seen the machine's history. `AllocError` comes for want of memory, and the machine is then given up.
     pub fn make(alloc: Global, machine: M, shares: u32) -> Result<(Turn<M>, Seat<M>), AllocError>
         requires shares { 0 < shares }
         requires none_out { M.flights machine ≡ [] }
@@ -92,7 +92,8 @@ impl<M: Machine> Turn<M> {
         })
     }
 
-    /// Tries again until it has the turn. What it finds is as in `try_enter`, after no fewer losses.
+    /// Tries again until it has the turn, and waits between the tries; that it ever gets it isn't promised. What it finds is as in
+    /// `try_enter`, after no fewer losses.
     pub fn enter<R: Wait>(&self, rt: &R, seat: Seat<M>) -> Guard<'_, M>
         requires { seat.turn ≡ self.now }
         ensures turn { (result.turn ≡ self.now) × (result.called ≡ false) }

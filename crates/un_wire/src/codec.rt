@@ -19,9 +19,13 @@ use un_req::Request;
 /// A codec of any class.
 #[derive(Drop)]
 pub enum Codec {
+    /// ECM: a frame in each transfer.
     Ecm(EcmWire),
+    /// EEM: packets.
     Eem(EemWire),
+    /// NCM: blocks with fields of 16 bits.
     Ncm16(Ntb16Wire),
+    /// NCM: blocks with fields of 32 bits.
     Ncm32(Ntb32Wire),
 }
 

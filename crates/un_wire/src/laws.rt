@@ -3,7 +3,8 @@
 ghost use Rattle.un_frame.specs.Laws.{FormIsRead, OpenBegins, OpenFramesAreFound, OpenGrows, SegmentFits};
 ghost use Rattle.un_wire.specs.Laws.{CountsAreParts, FramesAreFew, PartsAreFrames, ReadingsAreOne};
 
-/// What a codec closes is read as the frames that it was made of, and has at most `capacity` bytes.
+/// What a codec closes is read as the frames that it was made of, and has at most `capacity` bytes, where the parameters are in range
+/// and agree.
 pub fn forms_are_read()
     ensures { FormIsRead }
 {}
@@ -16,19 +17,19 @@ pub fn open_transfers()
     ensures found { OpenFramesAreFound }
 {}
 
-/// Every frame of at most a segment fits a transfer with no frames.
+/// Every frame of at most a segment fits a transfer with no frames, where the parameters are in range and agree.
 pub fn segments_fit()
     ensures { SegmentFits }
 {}
 
-/// A transfer is read as one list of frames, and its parts are these frames.
+/// A transfer is read as one list of frames with one number of commands, and its parts are these frames.
 pub fn parts_are_one()
     ensures one { ReadingsAreOne }
     ensures frames { PartsAreFrames }
     ensures counts { CountsAreParts }
 {}
 
-/// A transfer has one frame in ECM, no more frames than bytes in EEM, and at most 2,097,120 in NCM.
+/// A transfer that the grammar reads has at most one frame in ECM, no more frames than bytes in EEM, and at most 2,097,120 in NCM.
 pub fn frames_are_few()
     ensures { FramesAreFew }
 {}

@@ -89,7 +89,7 @@ pub static ROUND: [Action; 26] = [
 ];
 
 impl<A: TxEnd + Drop, B: RxEnd + Drop, C: TxEnd + Drop, D: RxEnd + Drop> LinkOver<A, B, C, D> {
-    /// Repeats a round of every action; after a round that did nothing the next control is forced. It ends where no control is left. No flight is out at its start; afterwards the link is finished. Where an unplug was the one control left it is away: the `settled` line is the last of its history, every request is at home, and every datagram is at the peer or lost. What was given before begins what is given then.
+    /// Repeats a round of every action; after a round that did nothing the next control is forced. It ends after a round that did nothing with no control left. No flight is out at its start; afterwards the link is finished. Where an unplug was the one control left it is away: the `settled` line is the last of its history, every request is at home, and every datagram is at the peer or lost. What was given before begins what is given then.
     pub fn drain(&mut self)
         requires { flights_of self.old ≡ [] }
         ensures script { self.new.script ≡ self.old.script }

@@ -15,7 +15,7 @@ use un_frame::Lane;
 use un_journal::{Action, Answer};
 
 impl<A: TxEnd + Drop, B: RxEnd + Drop, C: TxEnd + Drop, D: RxEnd + Drop> LinkOver<A, B, C, D> {
-    /// Performs an action, and answers as its rules say: the first that applies. Every answer but `Did` leaves link and history as they were. A step takes constant time and the bytes that it moves.
+    /// Performs an action, and answers as its rules say: the first that applies. Every answer but `Did` leaves link and history as they were. A step takes constant time and that of the bytes that it moves; a control takes it for each request that it marks, cuts, queues or recalls.
     pub fn step(&mut self, action: Action) -> Answer
         ensures answer { result ≡ answer_of self.old.script self.old.log.history action }
         ensures script { self.new.script ≡ self.old.script }
