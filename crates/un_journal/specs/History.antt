@@ -8,6 +8,7 @@ use Rattle.un_frame.specs.declared.params.Lane.{Lane}
 use Rattle.un_frame.specs.declared.kinds.FaultKind.TheVariants.{Halt}
 use Rattle.un_frame.specs.Lanes.{same_lane}
 use Rattle.un_journal.specs.declared.lines.Line.{Line}
+use Rattle.un_journal.specs.Lines.{begin_with, row}
 use Rattle.un_journal.specs.declared.lines.Line.TheVariants.{Took, Refused, Made, Waited, Posted, Flying, Landed, Failed, Marked, Cut, Dropped, TxHome, Opened, Gave, Recalled, Cleared, Control, Settled}
 
 -- a line with its bytes
@@ -17,26 +18,10 @@ Entry = Line × List ℕ
 abbrev pub History : Type 0
 History = List Entry
 
--- whether a line speaks of the lane; a settled line speaks of both
+-- whether a line speaks of the lane, which is then its first field; a settled line speaks of both
 abbrev pub concerns : Lane → Entry → Bool
-concerns lane (Took l s, bytes) = same_lane lane l
-concerns lane (Refused l s why, bytes) = same_lane lane l
-concerns lane (Made l k a b, bytes) = same_lane lane l
-concerns lane (Waited l, bytes) = same_lane lane l
-concerns lane (Posted l, bytes) = same_lane lane l
-concerns lane (Flying l k, bytes) = same_lane lane l
-concerns lane (Landed l k, bytes) = same_lane lane l
-concerns lane (Failed l k kind, bytes) = same_lane lane l
-concerns lane (Marked l k c, bytes) = same_lane lane l
-concerns lane (Cut l k c, bytes) = same_lane lane l
-concerns lane (Dropped l a b c, bytes) = same_lane lane l
-concerns lane (TxHome l k, bytes) = same_lane lane l
-concerns lane (Opened l k, bytes) = same_lane lane l
-concerns lane (Gave l n, bytes) = same_lane lane l
-concerns lane (Recalled l, bytes) = same_lane lane l
-concerns lane (Cleared l, bytes) = same_lane lane l
-concerns lane (Control c f, bytes) = false
 concerns lane (Settled t1 r1 t2 r2, bytes) = true
+concerns lane (line, bytes) = begin_with lane (row line).fields
 
 -- the lane's entries, the newest first
 abbrev pub past : Lane → History → History

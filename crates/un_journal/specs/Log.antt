@@ -1,11 +1,12 @@
 -- A journal as plain data, and what each of its entries keeps.
-use Rattle.std.specs.Prelude.{◌≡◌, ◌≢◌, ℕ, ◌-◌, ◌≤◌, ◌<◌, ◌^◌, List, take, drop, map, length}
+use Rattle.std.specs.Prelude.{◌≡◌, ◌≢◌, ℕ, ◌-◌, ◌≤◌, ◌<◌, List, take, drop, map, length}
 use Rattle.std.specs.List.{AllByRecursion}
 use Rattle.un_frame.specs.Bytes.{AreBytes}
 use Rattle.un_frame.specs.declared.kinds.Verdict.TheVariants.{Take}
 use Rattle.un_journal.specs.declared.journal.Stored.{Stored}
 use Rattle.un_journal.specs.declared.lines.Line.{Line}
-use Rattle.un_journal.specs.declared.lines.Line.TheVariants.{Took, Refused, Made, Waited, Posted, Flying, Landed, Failed, Marked, Cut, Dropped, TxHome, Opened, Gave, Recalled, Cleared, Control, Settled}
+use Rattle.un_journal.specs.declared.lines.Line.TheVariants.{Refused, Made, Gave}
+use Rattle.un_journal.specs.Lines.{IsOfItsType, row}
 use Rattle.un_journal.specs.History.{Entry, History}
 
 -- the history, and the room for more lines and bytes
@@ -25,26 +26,9 @@ abbrev pub HasReason : Line → Type 0
 HasReason (Refused l s why) = why ≢ Take
 HasReason line = Unit {0}
 
--- each number of a line is one of its field's type: senders, controls and requests of 32 bits, serials and datagrams of 64
+-- each number of a line is one of its field's type
 abbrev pub FitsTypes : Line → Type 0
-FitsTypes (Took l s) = s < 2 ^ 32
-FitsTypes (Refused l s why) = s < 2 ^ 32
-FitsTypes (Made l k a b) = (k < 2 ^ 64) × (a < 2 ^ 64) × (b < 2 ^ 64)
-FitsTypes (Waited l) = Unit {0}
-FitsTypes (Posted l) = Unit {0}
-FitsTypes (Flying l k) = k < 2 ^ 64
-FitsTypes (Landed l k) = k < 2 ^ 64
-FitsTypes (Failed l k kind) = k < 2 ^ 64
-FitsTypes (Marked l k c) = (k < 2 ^ 64) × (c < 2 ^ 32)
-FitsTypes (Cut l k c) = (k < 2 ^ 64) × (c < 2 ^ 32)
-FitsTypes (Dropped l a b c) = (a < 2 ^ 64) × (b < 2 ^ 64) × (c < 2 ^ 32)
-FitsTypes (TxHome l k) = k < 2 ^ 64
-FitsTypes (Opened l k) = k < 2 ^ 64
-FitsTypes (Gave l n) = n < 2 ^ 64
-FitsTypes (Recalled l) = Unit {0}
-FitsTypes (Cleared l) = Unit {0}
-FitsTypes (Control c f) = c < 2 ^ 32
-FitsTypes (Settled t1 r1 t2 r2) = (t1 < 2 ^ 32) × (r1 < 2 ^ 32) × (t2 < 2 ^ 32) × (r2 < 2 ^ 32)
+FitsTypes line = AllByRecursion IsOfItsType (row line).fields
 
 -- what holds of each entry that a journal keeps
 abbrev pub IsEntry : Entry → Type 0

@@ -3,7 +3,6 @@
 use Rattle.std.specs.Prelude.{◌≡◌, ℕ, ◌==◌, List, [], ◌∷◌, ◌++◌, length, codes, Option, Some, None, Result, Ok, Err, if◌then◌else◌}
 use Rattle.std.specs.Str.{bytes_eq}
 use Rattle.un_frame.specs.Spelling.{lane_named}
-use Rattle.un_frame.specs.declared.params.Lane.{Lane}
 use Rattle.un_journal.specs.declared.lines.Line.{Line}
 use Rattle.un_journal.specs.declared.lines.Line.TheVariants.{Took, Refused, Made, Waited, Posted, Flying, Landed, Failed, Marked, Cut, Dropped, TxHome, Opened, Gave, Recalled, Cleared, Control, Settled}
 use Rattle.un_journal.specs.declared.trace_reader.Unread.{Unread}
@@ -25,127 +24,67 @@ abbrev pub with_bytes : List ℕ → Option Line → Option Entry
 with_bytes digits (Some line) = if length digits == 0 then None else Some (line, digits)
 with_bytes digits None = None
 
--- NAME LANE
-abbrev pub one_named : List ℕ → Lane → Option Line
-one_named name l =
-    if bytes_eq name (codes "waited") then Some (Waited l)
-    else (if bytes_eq name (codes "posted") then Some (Posted l)
-    else (if bytes_eq name (codes "recalled") then Some (Recalled l)
-    else (if bytes_eq name (codes "cleared") then Some (Cleared l)
-    else None)))
+-- a line of so many fields, each read by its type
+abbrev pub one : {A : Type 0} → (List ℕ → Option A) → (A → Line) → List ℕ → Option Line
+one read line a = do
+  x ← read a
+  Some (line x)
+
+abbrev pub two : {A B : Type 0} → (List ℕ → Option A) → (List ℕ → Option B) → (A → B → Line) → List ℕ → List ℕ → Option Line
+two read next line a b = do
+  x ← read a
+  one next (line x) b
+
+abbrev pub three : {A B C : Type 0} → (List ℕ → Option A) → (List ℕ → Option B) → (List ℕ → Option C) → (A → B → C → Line) → List ℕ → List ℕ → List ℕ → Option Line
+three read next third line a b c = do
+  x ← read a
+  two next third (line x) b c
+
+abbrev pub four : {A B C D : Type 0} → (List ℕ → Option A) → (List ℕ → Option B) → (List ℕ → Option C) → (List ℕ → Option D) → (A → B → C → D → Line) → List ℕ → List ℕ → List ℕ → List ℕ → Option Line
+four read next third last line a b c d = do
+  x ← read a
+  three next third last (line x) b c d
+
+-- THE TABLE, READ: by the number of words, and then by the first
 
 abbrev pub one_word : List ℕ → List ℕ → Option Line
-one_word name a = do
-  l ← lane_named a
-  one_named name l
-
--- NAME LANE NUMBER
-abbrev pub two_named : List ℕ → Lane → ℕ → Option Line
-two_named name l k =
-    if bytes_eq name (codes "flying") then Some (Flying l k)
-    else (if bytes_eq name (codes "landed") then Some (Landed l k)
-    else (if bytes_eq name (codes "txhome") then Some (TxHome l k)
-    else (if bytes_eq name (codes "opened") then Some (Opened l k)
+one_word name a =
+    if bytes_eq name (codes "waited") then one lane_named Waited a
+    else (if bytes_eq name (codes "posted") then one lane_named Posted a
+    else (if bytes_eq name (codes "recalled") then one lane_named Recalled a
+    else (if bytes_eq name (codes "cleared") then one lane_named Cleared a
     else None)))
-
-abbrev pub numbered_line : List ℕ → List ℕ → List ℕ → Option Line
-numbered_line name a b = do
-  l ← lane_named a
-  k ← long_in b
-  two_named name l k
-
-abbrev pub took_line : List ℕ → List ℕ → Option Line
-took_line a b = do
-  l ← lane_named a
-  s ← short_in b
-  Some (Took l s)
-
-abbrev pub control_line : List ℕ → List ℕ → Option Line
-control_line a b = do
-  c ← short_in a
-  f ← flag_in b
-  Some (Control c f)
 
 abbrev pub two_words : List ℕ → List ℕ → List ℕ → Option Line
 two_words name a b =
-    if bytes_eq name (codes "took") then took_line a b
-    else (if bytes_eq name (codes "did") then control_line a b
-    else numbered_line name a b)
-
--- NAME LANE NUMBER and one word more
-abbrev pub refused_line : List ℕ → List ℕ → List ℕ → Option Line
-refused_line a b c = do
-  l ← lane_named a
-  s ← short_in b
-  why ← why_in c
-  Some (Refused l s why)
-
-abbrev pub failed_line : List ℕ → List ℕ → List ℕ → Option Line
-failed_line a b c = do
-  l ← lane_named a
-  k ← long_in b
-  kind ← kind_named c
-  Some (Failed l k kind)
-
-abbrev pub marked_line : List ℕ → List ℕ → List ℕ → Option Line
-marked_line a b c = do
-  l ← lane_named a
-  k ← long_in b
-  cause ← short_in c
-  Some (Marked l k cause)
-
-abbrev pub cut_line : List ℕ → List ℕ → List ℕ → Option Line
-cut_line a b c = do
-  l ← lane_named a
-  k ← long_in b
-  cause ← short_in c
-  Some (Cut l k cause)
-
-abbrev pub gave_line : List ℕ → List ℕ → Option Line
-gave_line a b = do
-  l ← lane_named a
-  n ← long_in b
-  Some (Gave l n)
+    if bytes_eq name (codes "took") then two lane_named short_in Took a b
+    else (if bytes_eq name (codes "flying") then two lane_named long_in Flying a b
+    else (if bytes_eq name (codes "landed") then two lane_named long_in Landed a b
+    else (if bytes_eq name (codes "txhome") then two lane_named long_in TxHome a b
+    else (if bytes_eq name (codes "opened") then two lane_named long_in Opened a b
+    else (if bytes_eq name (codes "did") then two short_in flag_in Control a b
+    else None)))))
 
 abbrev pub three_words : List ℕ → List ℕ → List ℕ → List ℕ → Option Line
 three_words name a b c =
-    if bytes_eq name (codes "refused") then refused_line a b c
-    else (if bytes_eq name (codes "failed") then failed_line a b c
-    else (if bytes_eq name (codes "marked") then marked_line a b c
-    else (if bytes_eq name (codes "cut") then cut_line a b c
+    if bytes_eq name (codes "refused") then three lane_named short_in why_in Refused a b c
+    else (if bytes_eq name (codes "failed") then three lane_named long_in kind_named Failed a b c
+    else (if bytes_eq name (codes "marked") then three lane_named long_in short_in Marked a b c
+    else (if bytes_eq name (codes "cut") then three lane_named long_in short_in Cut a b c
     else None)))
-
--- four words
-abbrev pub dropped_line : List ℕ → List ℕ → List ℕ → List ℕ → Option Line
-dropped_line a b c d = do
-  l ← lane_named a
-  from ← long_in b
-  to ← long_in c
-  cause ← short_in d
-  Some (Dropped l from to cause)
-
-abbrev pub settled_line : List ℕ → List ℕ → List ℕ → List ℕ → Option Line
-settled_line a b c d = do
-  tx_out ← short_in a
-  rx_out ← short_in b
-  tx_in ← short_in c
-  rx_in ← short_in d
-  Some (Settled tx_out rx_out tx_in rx_in)
 
 abbrev pub four_words : List ℕ → List ℕ → List ℕ → List ℕ → List ℕ → Option Line
 four_words name a b c d =
-    if bytes_eq name (codes "dropped") then dropped_line a b c d
-    else (if bytes_eq name (codes "settled") then settled_line a b c d
+    if bytes_eq name (codes "dropped") then four lane_named long_in long_in short_in Dropped a b c d
+    else (if bytes_eq name (codes "settled") then four short_in short_in short_in short_in Settled a b c d
     else None)
 
--- five words, of which the last is the bytes
+-- the words before those of the bytes
+abbrev pub gave_line : List ℕ → List ℕ → Option Line
+gave_line a b = two lane_named long_in Gave a b
+
 abbrev pub made_line : List ℕ → List ℕ → List ℕ → List ℕ → Option Line
-made_line a b c d = do
-  l ← lane_named a
-  k ← long_in b
-  from ← long_in c
-  to ← long_in d
-  Some (Made l k from to)
+made_line a b c d = four lane_named long_in long_in long_in Made a b c d
 
 abbrev pub line_of : List (List ℕ) → Option Entry
 line_of (name ∷ a ∷ []) = without_bytes (one_word name a)

@@ -239,7 +239,7 @@ within_line n (Refused l s why) t fits w =
     let v = within_same n t w in
     (v.0, more_within (is_short why) n _ w.1, more_within (is_long why) n _ w.2, more_within (is_filtered why) n _ w.3, v.4, v.5, more_within (s == 0) n _ w.6, more_within (s == 1) n _ w.7, more_within (s == 2) n _ w.8, more_within (s == 3) n _ w.9, v.10, v.11, v.12, v.13)
 within_line n (Made l k a b) t fits w = let v = within_same n t w in (v.0, v.1, v.2, v.3, v.4, omega (arith, w.5), v.6, v.7, v.8, v.9, v.10, v.11, v.12, v.13)
-within_line n (Dropped l a b c) t fits w = let v = within_same n t w in (v.0, v.1, v.2, v.3, v.4, v.5, v.6, v.7, v.8, v.9, v.10, v.11, omega (arith, w.12, fits.1), v.13)
+within_line n (Dropped l a b c) t fits w = let v = within_same n t w in (v.0, v.1, v.2, v.3, v.4, v.5, v.6, v.7, v.8, v.9, v.10, v.11, omega (arith, w.12, fits.1.1.0), v.13)
 within_line n (Gave l m) t fits w = let v = within_same n t w in (v.0, v.1, v.2, v.3, omega (arith, w.4), v.5, v.6, v.7, v.8, v.9, v.10, v.11, v.12, v.13)
 within_line n line t fits w = within_same n t w
 
