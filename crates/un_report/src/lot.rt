@@ -1,7 +1,7 @@
 //! A lane's part of a history, line after line.
 
 ghost use Rattle.std.specs.Prelude.{◌≡◌, ◌+◌, ◌<◌, ◌≤◌, ◌∷◌, [], length, take, slice_get};
-ghost use Rattle.un_journal.specs.History.{concerns, past, made, span, made_bytes};
+ghost use Rattle.un_journal.specs.History.{past, made, span, made_bytes};
 ghost use Rattle.un_journal.specs.Sound.{IsSound};
 ghost use Rattle.un_report.specs.Counts.{span_size};
 ghost use Rattle.un_report.specs.Steps.{made_span, IsLot};
@@ -24,32 +24,6 @@ pub struct Found {
     pub next: u64,
     pub datagrams: u64,
     pub bytes: u64,
-}
-
-/// Whether a line speaks of the lane.
-fn concerns(lane: Lane, line: Line) -> bool
-    ensures { result ≡ Rattle.un_journal.specs.History.concerns lane (line, []) }
-{
-    match line {
-        Line::Took { lane: l, .. }
-        | Line::Refused { lane: l, .. }
-        | Line::Made { lane: l, .. }
-        | Line::Waited { lane: l }
-        | Line::Posted { lane: l }
-        | Line::Flying { lane: l, .. }
-        | Line::Landed { lane: l, .. }
-        | Line::Failed { lane: l, .. }
-        | Line::Marked { lane: l, .. }
-        | Line::Cut { lane: l, .. }
-        | Line::Dropped { lane: l, .. }
-        | Line::TxHome { lane: l, .. }
-        | Line::Opened { lane: l, .. }
-        | Line::Gave { lane: l, .. }
-        | Line::Recalled { lane: l }
-        | Line::Cleared { lane: l } => lane == l,
-        Line::Control { .. } => false,
-        Line::Settled { .. } => true,
-    }
 }
 
 /// The span of a line that makes a transfer of the lane.
@@ -112,7 +86,7 @@ pub fn count(journal: &Journal, lane: Lane, lot: Lot, packet: u32, index: u64) -
 {
     journal.keeps_entries();
     let line = journal.line(index);
-    if !concerns(lane, line) {
+    if !line.concerns(lane) {
         return lot;
     }
     if !is_end(line) {
