@@ -14,17 +14,13 @@ use Rattle.un_journal.specs.Lines.{Field, Row, lane, short, long, reason, fault,
 use Rattle.un_journal.specs.Log.{FitsTypes, HasReason, CarriesItsBytes}
 use Rattle.un_journal.specs.Text.{name_of, words_of}
 use Rattle.un_text.specs.Words.{words_in, why_in, flag_in, short_in, long_in, kind_named}
-use Rattle.un_journal.specs.TraceLines.{◌>>=◌, without_bytes, with_bytes, one, two, three, four, one_word, two_words, gave_line, three_words, four_words, made_line, line_of, line_in}
+use Rattle.un_journal.specs.TraceLines.{◌>>=◌, Found, first_read, only_word, no_word, digits_left, one, two, three, four, line_named, with_digits, line_of, line_in}
 use Rattle.un_text.proofs.ReadWords.{words_some}
 use Rattle.un_text.proofs.ReadFields.{never, lane_sound, lane_back, why_sound, why_back, kind_sound, kind_back, flag_sound, flag_back, short_sound, short_back, long_sound, long_back}
 
 pub heard : (text : List ℕ) (words : List (List ℕ)) → words_in text ≡ words → line_in text ≡ line_of words
 unfolding line_in
 heard text words e = rw e refl
-
--- no line has more than six words
-pub too_many : (a b c d e f rest : List ℕ) → line_of (a ∷ b ∷ c ∷ d ∷ e ∷ f ∷ words_in rest) ≡ None
-too_many a b c d e f rest = let some = words_some rest in rw some.2 refl
 
 -- What a type of field reads is spelled as it stands there, and is of that type.
 record Reads {A : Type 0} (read : List ℕ → Option A) (field : A → Field) : Type 0 where
@@ -48,9 +44,9 @@ faults = record { says = λ w x h. (kind_sound w x h, tt) }
 flags : Reads flag_in flag
 flags = record { says = λ w x h. (flag_sound w x h, tt) }
 
--- what a line that is read has: its name and words, and what each entry has
-abbrev pub Says : List ℕ → List (List ℕ) → List ℕ → Line → Type 0
-Says name words digits line = (name_of line ≡ name) × (words_of line ≡ words) × FitsTypes line × HasReason line × CarriesItsBytes line digits
+-- what a line that is read has: its name and words, before those that are left, and what each entry has
+abbrev Says : List ℕ → List (List ℕ) → Found → Type 0
+Says name words found = (name_of found.0 ≡ name) × (words ≡ words_of found.0 ++ found.1) × FitsTypes found.0 × HasReason found.0
 
 -- what passes a test goes on
 pub through : {A B : Type 0} (P : Type 0) (r : Option A) (f : A → Option B) (b : B) → ((a : A) → r ≡ Some a → f a ≡ Some b → P) → (r >>= f) ≡ Some b → P
@@ -64,121 +60,94 @@ chosen P false x y b here there h = there h
 
 -- LINES OF SO MANY FIELDS
 
--- fields that spell these words, each of its type
-record Spell (fields : List Field) (words : List (List ℕ)) : Type 0 where
-  same : map spelled fields ≡ words
+-- fields that spell the first of these words, each of its type, and the words behind them
+record Spell (fields : List Field) (words rest : List (List ℕ)) : Type 0 where
+  same : words ≡ map spelled fields ++ rest
   fit : AllByRecursion IsOfItsType fields
 
-nothing : Spell [] []
-nothing = record { same = refl; fit = tt }
+nothing : (rest : List (List ℕ)) → Spell [] rest rest
+nothing rest = record { same = refl; fit = tt }
 
-spell : {A : Type 0} {read : List ℕ → Option A} {field : A → Field} → Reads read field → (w : List ℕ) (x : A) → read w ≡ Some x → {fields : List Field} {words : List (List ℕ)} → Spell fields words → Spell (field x ∷ fields) (w ∷ words)
-spell {A} {read} {field} r w x h {fields} {words} s = let m = r.says w x h in record { same = ap (λ v. v ∷ map spelled fields) m.0 ∙ ap (λ ws. w ∷ ws) s.same; fit = (m.1, s.fit) }
+spell : {A : Type 0} {read : List ℕ → Option A} {field : A → Field} → Reads read field → (words : List (List ℕ)) (x : A × List (List ℕ)) → first_read read words ≡ Some x → {fields : List Field} {rest : List (List ℕ)} → Spell fields x.1 rest → Spell (field x.0 ∷ fields) words rest
+spell {A} {read} {field} r [] x h {fields} {rest} s = absurd (cc)
+spell {A} {read} {field} r (w ∷ ws) x h {fields} {rest} s =
+    through (Spell (field x.0 ∷ fields) (w ∷ ws) rest) (read w) _ x (λ y e same.
+    subst (λ (z : A × List (List ℕ)). Spell fields z.1 rest → Spell (field z.0 ∷ fields) (w ∷ ws) rest) (same_Some (y, ws) x same) (λ t.
+    let m = r.says w y e in record { same = ap (λ v. v ∷ ws) (sym m.0) ∙ ap (λ vs. spelled (field y) ∷ vs) t.same; fit = (m.1, t.fit) }) s) h
+
+-- the word that was read
+word_read : {A : Type 0} (read : List ℕ → Option A) (words : List (List ℕ)) (x : A × List (List ℕ)) → first_read read words ≡ Some x → (w : List ℕ) × (read w ≡ Some x.0)
+word_read {A} read [] x h = absurd (cc)
+word_read {A} read (w ∷ ws) x h =
+    through ((v : List ℕ) × (read v ≡ Some x.0)) (read w) _ x (λ y e same. (w, e ∙ ap (λ (z : A × List (List ℕ)). Some z.0) (same_Some (y, ws) x same))) h
 
 -- the row of a line: its name, and these fields
 abbrev HasRow : Line → List ℕ → List Field → Type 0
 HasRow line name fields = row line ≡ record { name = name; fields = fields }
 
--- what stands in no word: the reason of a refusal, and whether there are bytes
-abbrev HasMore : Line → List ℕ → Type 0
-HasMore line digits = HasReason line × CarriesItsBytes line digits
+says : (line : Line) (name : List ℕ) (words rest : List (List ℕ)) (fields : List Field) → HasRow line name fields → Spell fields words rest → HasReason line → Says name words (line, rest)
+says line name words rest fields e s more =
+    (ap (λ (r : Row). r.name) e, s.same ∙ ap (λ (r : Row). map spelled r.fields ++ rest) (sym e), subst (λ (r : Row). AllByRecursion IsOfItsType r.fields) (sym e) s.fit, more)
 
-says : (line : Line) (name : List ℕ) (words : List (List ℕ)) (digits : List ℕ) (fields : List Field) → HasRow line name fields → Spell fields words → HasMore line digits → Says name words digits line
-says line name words digits fields e s more = (ap (λ (r : Row). r.name) e, ap (λ (r : Row). map spelled r.fields) e ∙ s.same, subst (λ (r : Row). AllByRecursion IsOfItsType r.fields) (sym e) s.fit, more.0, more.1)
+one_says : {A : Type 0} {r : List ℕ → Option A} {f : A → Field} → Reads r f → (make : A → Line) (name : List ℕ) (words : List (List ℕ)) (found : Found)
+    → ((x : A) → HasRow (make x) name (f x ∷ [])) → ((x : A) → HasReason (make x)) → one r make words ≡ Some found → Says name words found
+one_says {A} {r} {f} fr make name words found is more h =
+    through (Says name words found) (first_read r words) _ found (λ x xe xh.
+    subst (Says name words) (same_Some (make x.0, x.1) found xh) (says (make x.0) name words x.1 (f x.0 ∷ []) (is x.0) (spell fr words x xe (nothing x.1)) (more x.0))) h
 
-some_line : (x y : Line) → Some x ≡ Some y → x ≡ y
-some_line x y h = cc
+two_says : {A B : Type 0} {r : List ℕ → Option A} {s : List ℕ → Option B} {f : A → Field} {g : B → Field} → Reads r f → Reads s g → (make : A → B → Line) (name : List ℕ) (words : List (List ℕ)) (found : Found)
+    → ((x : A) (y : B) → HasRow (make x y) name (f x ∷ g y ∷ [])) → ((x : A) (y : B) → HasReason (make x y)) → two r s make words ≡ Some found → Says name words found
+two_says {A} {B} {r} {s} {f} {g} fr gs make name words found is more h =
+    through (Says name words found) (first_read r words) _ found (λ x xe xh.
+    through (Says name words found) (first_read s x.1) _ found (λ y ye yh.
+    subst (Says name words) (same_Some (make x.0 y.0, y.1) found yh) (says (make x.0 y.0) name words y.1 (f x.0 ∷ g y.0 ∷ []) (is x.0 y.0) (spell fr words x xe (spell gs x.1 y ye (nothing y.1))) (more x.0 y.0))) xh) h
 
-one_says : {A : Type 0} {r : List ℕ → Option A} {f : A → Field} → Reads r f → (make : A → Line) (name a digits : List ℕ) (line : Line)
-    → ((x : A) → HasRow (make x) name (f x ∷ [])) → ((x : A) → r a ≡ Some x → HasMore (make x) digits)
-    → one r make a ≡ Some line → Says name (a ∷ []) digits line
-one_says {A} {r} {f} fr make name a digits line is more h =
-    let Q : Line → Type 0 = Says name (a ∷ []) digits in
-    through (Q line) (r a) _ line (λ x xe xh.
-    subst Q (some_line (make x) line xh) (says (make x) name (a ∷ []) digits (f x ∷ []) (is x) (spell fr a x xe nothing) (more x xe))) h
+three_says : {A B C : Type 0} {r : List ℕ → Option A} {s : List ℕ → Option B} {t : List ℕ → Option C} {f : A → Field} {g : B → Field} {i : C → Field} → Reads r f → Reads s g → Reads t i → (make : A → B → C → Line) (name : List ℕ) (words : List (List ℕ)) (found : Found)
+    → ((x : A) (y : B) (z : C) → HasRow (make x y z) name (f x ∷ g y ∷ i z ∷ [])) → ((x : A) (y : B) (z : C) (w : List ℕ) → t w ≡ Some z → HasReason (make x y z)) → three r s t make words ≡ Some found → Says name words found
+three_says {A} {B} {C} {r} {s} {t} {f} {g} {i} fr gs it make name words found is more h =
+    through (Says name words found) (first_read r words) _ found (λ x xe xh.
+    through (Says name words found) (first_read s x.1) _ found (λ y ye yh.
+    through (Says name words found) (first_read t y.1) _ found (λ z ze zh.
+    subst (Says name words) (same_Some (make x.0 y.0 z.0, z.1) found zh) (says (make x.0 y.0 z.0) name words z.1 (f x.0 ∷ g y.0 ∷ i z.0 ∷ []) (is x.0 y.0 z.0) (spell fr words x xe (spell gs x.1 y ye (spell it y.1 z ze (nothing z.1)))) (let word = word_read t y.1 z ze in more x.0 y.0 z.0 word.0 word.1))) yh) xh) h
 
-two_says : {A B : Type 0} {r : List ℕ → Option A} {s : List ℕ → Option B} {f : A → Field} {g : B → Field} → Reads r f → Reads s g → (make : A → B → Line) (name a b digits : List ℕ) (line : Line)
-    → ((x : A) (y : B) → HasRow (make x y) name (f x ∷ g y ∷ [])) → ((x : A) (y : B) → HasMore (make x y) digits)
-    → two r s make a b ≡ Some line → Says name (a ∷ b ∷ []) digits line
-two_says {A} {B} {r} {s} {f} {g} fr gs make name a b digits line is more h =
-    let Q : Line → Type 0 = Says name (a ∷ b ∷ []) digits in
-    through (Q line) (r a) _ line (λ x xe xh.
-    through (Q line) (s b) _ line (λ y ye yh.
-    subst Q (some_line (make x y) line yh) (says (make x y) name (a ∷ b ∷ []) digits (f x ∷ g y ∷ []) (is x y) (spell fr a x xe (spell gs b y ye nothing)) (more x y))) xh) h
-
-three_says : {A B C : Type 0} {r : List ℕ → Option A} {s : List ℕ → Option B} {t : List ℕ → Option C} {f : A → Field} {g : B → Field} {i : C → Field} → Reads r f → Reads s g → Reads t i → (make : A → B → C → Line) (name a b c digits : List ℕ) (line : Line)
-    → ((x : A) (y : B) (z : C) → HasRow (make x y z) name (f x ∷ g y ∷ i z ∷ [])) → ((x : A) (y : B) (z : C) → t c ≡ Some z → HasMore (make x y z) digits)
-    → three r s t make a b c ≡ Some line → Says name (a ∷ b ∷ c ∷ []) digits line
-three_says {A} {B} {C} {r} {s} {t} {f} {g} {i} fr gs it make name a b c digits line is more h =
-    let Q : Line → Type 0 = Says name (a ∷ b ∷ c ∷ []) digits in
-    through (Q line) (r a) _ line (λ x xe xh.
-    through (Q line) (s b) _ line (λ y ye yh.
-    through (Q line) (t c) _ line (λ z ze zh.
-    subst Q (some_line (make x y z) line zh) (says (make x y z) name (a ∷ b ∷ c ∷ []) digits (f x ∷ g y ∷ i z ∷ []) (is x y z) (spell fr a x xe (spell gs b y ye (spell it c z ze nothing))) (more x y z ze))) yh) xh) h
-
-four_says : {A B C D : Type 0} {r : List ℕ → Option A} {s : List ℕ → Option B} {t : List ℕ → Option C} {u : List ℕ → Option D} {f : A → Field} {g : B → Field} {i : C → Field} {j : D → Field}
-    → Reads r f → Reads s g → Reads t i → Reads u j → (make : A → B → C → D → Line) (name a b c d digits : List ℕ) (line : Line)
-    → ((x : A) (y : B) (z : C) (v : D) → HasRow (make x y z v) name (f x ∷ g y ∷ i z ∷ j v ∷ [])) → ((x : A) (y : B) (z : C) (v : D) → HasMore (make x y z v) digits)
-    → four r s t u make a b c d ≡ Some line → Says name (a ∷ b ∷ c ∷ d ∷ []) digits line
-four_says {A} {B} {C} {D} {r} {s} {t} {u} {f} {g} {i} {j} fr gs it ju make name a b c d digits line is more h =
-    let Q : Line → Type 0 = Says name (a ∷ b ∷ c ∷ d ∷ []) digits in
-    through (Q line) (r a) _ line (λ x xe xh.
-    through (Q line) (s b) _ line (λ y ye yh.
-    through (Q line) (t c) _ line (λ z ze zh.
-    through (Q line) (u d) _ line (λ v ve vh.
-    subst Q (some_line (make x y z v) line vh) (says (make x y z v) name (a ∷ b ∷ c ∷ d ∷ []) digits (f x ∷ g y ∷ i z ∷ j v ∷ []) (is x y z v) (spell fr a x xe (spell gs b y ye (spell it c z ze (spell ju d v ve nothing)))) (more x y z v))) zh) yh) xh) h
+four_says : {A B C D : Type 0} {r : List ℕ → Option A} {s : List ℕ → Option B} {t : List ℕ → Option C} {u : List ℕ → Option D} {f : A → Field} {g : B → Field} {i : C → Field} {j : D → Field} → Reads r f → Reads s g → Reads t i → Reads u j → (make : A → B → C → D → Line) (name : List ℕ) (words : List (List ℕ)) (found : Found)
+    → ((x : A) (y : B) (z : C) (v : D) → HasRow (make x y z v) name (f x ∷ g y ∷ i z ∷ j v ∷ [])) → ((x : A) (y : B) (z : C) (v : D) → HasReason (make x y z v)) → four r s t u make words ≡ Some found → Says name words found
+four_says {A} {B} {C} {D} {r} {s} {t} {u} {f} {g} {i} {j} fr gs it ju make name words found is more h =
+    through (Says name words found) (first_read r words) _ found (λ x xe xh.
+    through (Says name words found) (first_read s x.1) _ found (λ y ye yh.
+    through (Says name words found) (first_read t y.1) _ found (λ z ze zh.
+    through (Says name words found) (first_read u z.1) _ found (λ v ve vh.
+    subst (Says name words) (same_Some (make x.0 y.0 z.0 v.0, v.1) found vh) (says (make x.0 y.0 z.0 v.0) name words v.1 (f x.0 ∷ g y.0 ∷ i z.0 ∷ j v.0 ∷ []) (is x.0 y.0 z.0 v.0) (spell fr words x xe (spell gs x.1 y ye (spell it y.1 z ze (spell ju z.1 v ve (nothing v.1))))) (more x.0 y.0 z.0 v.0))) zh) yh) xh) h
 
 -- a line of this name, or another
-named : (name word : List ℕ) (words : List (List ℕ)) (digits : List ℕ) (line : Line) (here there : Option Line)
-    → (here ≡ Some line → Says word words digits line) → (there ≡ Some line → Says name words digits line) → (if bytes_eq name word then here else there) ≡ Some line → Says name words digits line
-named name word words digits line here there is other h =
-    chosen (Says name words digits line) (bytes_eq name word) here there line (λ e k. let s = is k in (s.0 ∙ sym (same_bytes name word e), s.1, s.2, s.3, s.4)) other h
+named : (name word : List ℕ) (words : List (List ℕ)) (found : Found) (here there : Option Found) → (here ≡ Some found → Says word words found) → (there ≡ Some found → Says name words found)
+    → (if bytes_eq name word then here else there) ≡ Some found → Says name words found
+named name word words found here there is other h =
+    chosen (Says name words found) (bytes_eq name word) here there found (λ e k. let s = is k in (s.0 ∙ sym (same_bytes name word e), s.1, s.2, s.3)) other h
 
 -- THE TABLE
 
-one_sound : (name a : List ℕ) (line : Line) → one_word name a ≡ Some line → Says name (a ∷ []) [] line
-one_sound name a line h =
-    named name (codes "waited") (a ∷ []) [] line _ _ (one_says lanes Waited (codes "waited") a [] line (λ x. refl) (λ x e. (tt, refl)))
-    (named name (codes "posted") (a ∷ []) [] line _ _ (one_says lanes Posted (codes "posted") a [] line (λ x. refl) (λ x e. (tt, refl)))
-    (named name (codes "recalled") (a ∷ []) [] line _ _ (one_says lanes Recalled (codes "recalled") a [] line (λ x. refl) (λ x e. (tt, refl)))
-    (named name (codes "cleared") (a ∷ []) [] line _ None (one_says lanes Cleared (codes "cleared") a [] line (λ x. refl) (λ x e. (tt, refl)))
-    (never (Says name (a ∷ []) [] line) line)))) h
-
-two_sound : (name a b : List ℕ) (line : Line) → two_words name a b ≡ Some line → Says name (a ∷ b ∷ []) [] line
-two_sound name a b line h =
-    named name (codes "took") (a ∷ b ∷ []) [] line _ _ (two_says lanes shorts Took (codes "took") a b [] line (λ x y. refl) (λ x y. (tt, refl)))
-    (named name (codes "flying") (a ∷ b ∷ []) [] line _ _ (two_says lanes longs Flying (codes "flying") a b [] line (λ x y. refl) (λ x y. (tt, refl)))
-    (named name (codes "landed") (a ∷ b ∷ []) [] line _ _ (two_says lanes longs Landed (codes "landed") a b [] line (λ x y. refl) (λ x y. (tt, refl)))
-    (named name (codes "txhome") (a ∷ b ∷ []) [] line _ _ (two_says lanes longs TxHome (codes "txhome") a b [] line (λ x y. refl) (λ x y. (tt, refl)))
-    (named name (codes "opened") (a ∷ b ∷ []) [] line _ _ (two_says lanes longs Opened (codes "opened") a b [] line (λ x y. refl) (λ x y. (tt, refl)))
-    (named name (codes "did") (a ∷ b ∷ []) [] line _ None (two_says shorts flags Control (codes "did") a b [] line (λ x y. refl) (λ x y. (tt, refl)))
-    (never (Says name (a ∷ b ∷ []) [] line) line)))))) h
-
-three_sound : (name a b c : List ℕ) (line : Line) → three_words name a b c ≡ Some line → Says name (a ∷ b ∷ c ∷ []) [] line
-three_sound name a b c line h =
-    let ws : List (List ℕ) = a ∷ b ∷ c ∷ [] in
-    named name (codes "refused") ws [] line _ _ (three_says lanes shorts reasons Refused (codes "refused") a b c [] line (λ x y z. refl) (λ x y z e. ((why_sound c z e).1, refl)))
-    (named name (codes "failed") ws [] line _ _ (three_says lanes longs faults Failed (codes "failed") a b c [] line (λ x y z. refl) (λ x y z e. (tt, refl)))
-    (named name (codes "marked") ws [] line _ _ (three_says lanes longs shorts Marked (codes "marked") a b c [] line (λ x y z. refl) (λ x y z e. (tt, refl)))
-    (named name (codes "cut") ws [] line _ None (three_says lanes longs shorts Cut (codes "cut") a b c [] line (λ x y z. refl) (λ x y z e. (tt, refl)))
-    (never (Says name ws [] line) line)))) h
-
-four_sound : (name a b c d : List ℕ) (line : Line) → four_words name a b c d ≡ Some line → Says name (a ∷ b ∷ c ∷ d ∷ []) [] line
-four_sound name a b c d line h =
-    let ws : List (List ℕ) = a ∷ b ∷ c ∷ d ∷ [] in
-    named name (codes "dropped") ws [] line _ _ (four_says lanes longs longs shorts Dropped (codes "dropped") a b c d [] line (λ x y z v. refl) (λ x y z v. (tt, refl)))
-    (named name (codes "settled") ws [] line _ None (four_says shorts shorts shorts shorts Settled (codes "settled") a b c d [] line (λ x y z v. refl) (λ x y z v. (tt, refl)))
-    (never (Says name ws [] line) line)) h
-
-gave_sound : (a b digits : List ℕ) (line : Line) → 0 < length digits → gave_line a b ≡ Some line → Says (codes "gave") (a ∷ b ∷ []) digits line
-gave_sound a b digits line some h = two_says lanes longs Gave (codes "gave") a b digits line (λ x y. refl) (λ x y. (tt, some)) h
-
-made_sound : (a b c d digits : List ℕ) (line : Line) → 0 < length digits → made_line a b c d ≡ Some line → Says (codes "made") (a ∷ b ∷ c ∷ d ∷ []) digits line
-made_sound a b c d digits line some h = four_says lanes longs longs longs Made (codes "made") a b c d digits line (λ x y z v. refl) (λ x y z v. (tt, some)) h
-
--- another name that is the same
-renamed : (name other : List ℕ) (words : List (List ℕ)) (digits : List ℕ) (line : Line) → bytes_eq other name ≡ true → Says name words digits line → Says other words digits line
-renamed name other words digits line e s = (s.0 ∙ sym (same_bytes other name e), s.1, s.2, s.3, s.4)
+named_sound : (name : List ℕ) (words : List (List ℕ)) (found : Found) → line_named name words ≡ Some found → Says name words found
+named_sound name words found h =
+    named name (codes "took") words found _ _ (two_says lanes shorts Took (codes "took") words found (λ x y. refl) (λ x y. tt))
+    (named name (codes "refused") words found _ _ (three_says lanes shorts reasons Refused (codes "refused") words found (λ x y z. refl) (λ x y z w e. (why_sound w z e).1))
+    (named name (codes "made") words found _ _ (four_says lanes longs longs longs Made (codes "made") words found (λ x y z v. refl) (λ x y z v. tt))
+    (named name (codes "waited") words found _ _ (one_says lanes Waited (codes "waited") words found (λ x. refl) (λ x. tt))
+    (named name (codes "posted") words found _ _ (one_says lanes Posted (codes "posted") words found (λ x. refl) (λ x. tt))
+    (named name (codes "flying") words found _ _ (two_says lanes longs Flying (codes "flying") words found (λ x y. refl) (λ x y. tt))
+    (named name (codes "landed") words found _ _ (two_says lanes longs Landed (codes "landed") words found (λ x y. refl) (λ x y. tt))
+    (named name (codes "failed") words found _ _ (three_says lanes longs faults Failed (codes "failed") words found (λ x y z. refl) (λ x y z w e. tt))
+    (named name (codes "marked") words found _ _ (three_says lanes longs shorts Marked (codes "marked") words found (λ x y z. refl) (λ x y z w e. tt))
+    (named name (codes "cut") words found _ _ (three_says lanes longs shorts Cut (codes "cut") words found (λ x y z. refl) (λ x y z w e. tt))
+    (named name (codes "dropped") words found _ _ (four_says lanes longs longs shorts Dropped (codes "dropped") words found (λ x y z v. refl) (λ x y z v. tt))
+    (named name (codes "txhome") words found _ _ (two_says lanes longs TxHome (codes "txhome") words found (λ x y. refl) (λ x y. tt))
+    (named name (codes "opened") words found _ _ (two_says lanes longs Opened (codes "opened") words found (λ x y. refl) (λ x y. tt))
+    (named name (codes "gave") words found _ _ (two_says lanes longs Gave (codes "gave") words found (λ x y. refl) (λ x y. tt))
+    (named name (codes "recalled") words found _ _ (one_says lanes Recalled (codes "recalled") words found (λ x. refl) (λ x. tt))
+    (named name (codes "cleared") words found _ _ (one_says lanes Cleared (codes "cleared") words found (λ x. refl) (λ x. tt))
+    (named name (codes "did") words found _ _ (two_says shorts flags Control (codes "did") words found (λ x y. refl) (λ x y. tt))
+    (named name (codes "settled") words found _ None (four_says shorts shorts shorts shorts Settled (codes "settled") words found (λ x y z v. refl) (λ x y z v. tt))
+    (never (Says name words found) found)))))))))))))))))) h
 
 -- the words of a line's digits, where it carries some
 abbrev pub digit_words : List ℕ → List (List ℕ)
@@ -189,48 +158,42 @@ digit_words (d ∷ ds) = (d ∷ ds) ∷ []
 some_length : (d : ℕ) (ds : List ℕ) → (length (d ∷ ds) == 0) ≡ false
 some_length d ds = grind (arith, nat_tests)
 
+-- a line has a word, so none is no word, and two are not the only one
+pub some_left : (text : List ℕ) → no_word (words_in text) ≡ None
+some_left text = let some = words_some text in rw some.2 refl
+
+pub more_left : (digits text : List ℕ) → only_word (digits ∷ words_in text) ≡ None
+more_left digits text = let some = words_some text in rw some.2 refl
+
+only_sound : (rest : List (List ℕ)) (ds : List ℕ) → only_word rest ≡ Some ds → (rest ≡ digit_words ds) × (0 < length ds)
+only_sound [] ds h = absurd (cc)
+only_sound ([] ∷ []) ds h = absurd (cc)
+only_sound ((d ∷ ds) ∷ []) es h = rw (← same_Some (d ∷ ds) es (rw (some_length d ds) at h)) (refl, omega arith)
+only_sound (w ∷ v ∷ ws) ds h = absurd (cc)
+
+none_sound : (rest : List (List ℕ)) (ds : List ℕ) → no_word rest ≡ Some ds → (rest ≡ digit_words ds) × (length ds ≡ 0)
+none_sound [] ds h = rw (← same_Some [] ds h) (refl, refl)
+none_sound (w ∷ ws) ds h = absurd (cc)
+
+digits_sound : (line : Line) (rest : List (List ℕ)) (ds : List ℕ) → digits_left line rest ≡ Some ds → (rest ≡ digit_words ds) × CarriesItsBytes line ds
+digits_sound (Made l k a b) rest ds h = only_sound rest ds h
+digits_sound (Gave l n) rest ds h = only_sound rest ds h
+digits_sound line rest ds h = none_sound rest ds h
+
 -- all words of a line that is read
-abbrev pub Spells : List (List ℕ) → Line → List ℕ → Type 0
-Spells words line digits = (words ≡ name_of line ∷ (words_of line ++ digit_words digits)) × FitsTypes line × HasReason line × CarriesItsBytes line digits
-
 abbrev pub SpellsAs : List (List ℕ) → Entry → Type 0
-SpellsAs words (line, digits) = Spells words line digits
+SpellsAs words (line, digits) = (words ≡ name_of line ∷ (words_of line ++ digit_words digits)) × FitsTypes line × HasReason line × CarriesItsBytes line digits
 
-bare_spells : (name : List ℕ) (words : List (List ℕ)) (line : Line) → Says name words [] line → Spells (name ∷ words) line []
-bare_spells name words line s = (rw (s.0, s.1) (ap (λ ws. name ∷ ws) (sym (append_none words))), s.2, s.3, s.4)
-  where
-    append_none : (ws : List (List ℕ)) → ws ++ [] ≡ ws
-    append_none [] = refl
-    append_none (w ∷ ws) = ap (λ v. w ∷ v) (append_none ws)
-
-bare_as : (name : List ℕ) (words : List (List ℕ)) (o : Option Line) (w : Entry) → ((line : Line) → o ≡ Some line → Says name words [] line) → without_bytes o ≡ Some w → SpellsAs (name ∷ words) w
-bare_as name words (Some line) w says h = subst (SpellsAs (name ∷ words)) (same_Some (line, []) w h) (bare_spells name words line (says line refl))
-bare_as name words None w says h = absurd (cc)
-
-byte_spells : (name : List ℕ) (words : List (List ℕ)) (d : ℕ) (ds : List ℕ) (line : Line) → Says name words (d ∷ ds) line → Spells (name ∷ (words ++ (d ∷ ds) ∷ [])) line (d ∷ ds)
-byte_spells name words d ds line s = (rw (s.0, s.1) refl, s.2, s.3, s.4)
-
-byte_as : (name : List ℕ) (words : List (List ℕ)) (digits : List ℕ) (o : Option Line) (w : Entry) → ((line : Line) → o ≡ Some line → 0 < length digits → Says name words digits line) → with_bytes digits o ≡ Some w → SpellsAs (name ∷ (words ++ digits ∷ [])) w
-byte_as name words [] (Some line) w says h = absurd (cc)
-byte_as name words (d ∷ ds) (Some line) w says h =
-    subst (SpellsAs (name ∷ (words ++ (d ∷ ds) ∷ []))) (same_Some (line, d ∷ ds) w (rw (some_length d ds) at h)) (byte_spells name words d ds line (says line refl (omega arith)))
-byte_as name words digits None w says h = absurd (cc)
-
-pub line_sound : (words : List (List ℕ)) (w : Entry) → line_of words ≡ Some w → SpellsAs words w
-line_sound [] w h = absurd (cc)
-line_sound (name ∷ []) w h = absurd (cc)
-line_sound (name ∷ a ∷ []) w h = bare_as name (a ∷ []) (one_word name a) w (one_sound name a) h
-line_sound (name ∷ a ∷ b ∷ []) w h = bare_as name (a ∷ b ∷ []) (two_words name a b) w (two_sound name a b) h
-line_sound (name ∷ a ∷ b ∷ c ∷ []) w h =
-    chosen (SpellsAs (name ∷ a ∷ b ∷ c ∷ []) w) (bytes_eq name (codes "gave")) (with_bytes c (gave_line a b)) _ w
-    (λ e k. byte_as name (a ∷ b ∷ []) c (gave_line a b) w (λ line g some. renamed (codes "gave") name _ c line e (gave_sound a b c line some g)) k)
-    (bare_as name (a ∷ b ∷ c ∷ []) (three_words name a b c) w (three_sound name a b c)) h
-line_sound (name ∷ a ∷ b ∷ c ∷ d ∷ []) w h = bare_as name (a ∷ b ∷ c ∷ d ∷ []) (four_words name a b c d) w (four_sound name a b c d) h
-line_sound (name ∷ a ∷ b ∷ c ∷ d ∷ e ∷ []) w h =
-    chosen (SpellsAs (name ∷ a ∷ b ∷ c ∷ d ∷ e ∷ []) w) (bytes_eq name (codes "made")) (with_bytes e (made_line a b c d)) None w
-    (λ n k. byte_as name (a ∷ b ∷ c ∷ d ∷ []) e (made_line a b c d) w (λ line g some. renamed (codes "made") name _ e line n (made_sound a b c d e line some g)) k)
-    (never (SpellsAs (name ∷ a ∷ b ∷ c ∷ d ∷ e ∷ []) w) w) h
-line_sound (name ∷ a ∷ b ∷ c ∷ d ∷ e ∷ f ∷ ws) w h = absurd (cc)
+pub line_sound : (words : List (List ℕ)) (e : Entry) → line_of words ≡ Some e → SpellsAs words e
+line_sound [] e h = absurd (cc)
+line_sound (name ∷ words) e h =
+    through (SpellsAs (name ∷ words) e) (line_named name words) with_digits e (λ found fe fh.
+    through (SpellsAs (name ∷ words) e) (digits_left found.0 found.1) _ e (λ ds de same.
+    let s = named_sound name words found fe in
+    let r = digits_sound found.0 found.1 ds de in
+    let all : SpellsAs (name ∷ words) (found.0, ds) =
+    (ap (λ n. n ∷ words) (sym s.0) ∙ ap (λ ws. name_of found.0 ∷ ws) (s.1 ∙ ap (λ ws. words_of found.0 ++ ws) r.0), s.2, s.3, r.1) in
+    subst (SpellsAs (name ∷ words)) (same_Some (found.0, ds) e same) all) fh) h
 
 -- WHAT IS WRITTEN
 

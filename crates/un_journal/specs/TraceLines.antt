@@ -1,5 +1,5 @@
--- How a trace's line is read: by the number of its words, its first word, and then each word by its field. That this reads exactly
--- the texts of entries is proved (proofs/ReadLines).
+-- How a trace's line is read: by its first word, and then each word by its field. That this reads exactly the texts of entries is
+-- proved (proofs/ReadLines).
 use Rattle.std.specs.Prelude.{◌≡◌, ℕ, ◌==◌, List, [], ◌∷◌, ◌++◌, length, codes, Option, Some, None, Result, Ok, Err, if◌then◌else◌}
 use Rattle.std.specs.Str.{bytes_eq}
 use Rattle.un_frame.specs.Spelling.{lane_named}
@@ -15,84 +15,88 @@ abbrev pub ◌>>=◌ : {A B : Type 0} → Option A → (A → Option B) → Opti
 (Some x) >>= f = f x
 None >>= f = None
 
--- A line that is read, with the digits of its bytes in their place.
-abbrev pub without_bytes : Option Line → Option Entry
-without_bytes (Some line) = Some (line, [])
-without_bytes None = None
+-- the words that are left of a line, of which the code keeps the text, or that there are none
+abbrev pub left : {T : Type 0} → (T → List ℕ) → Option T → List (List ℕ)
+left now (Some rest) = words_in (now rest)
+left now None = []
 
-abbrev pub with_bytes : List ℕ → Option Line → Option Entry
-with_bytes digits (Some line) = if length digits == 0 then None else Some (line, digits)
-with_bytes digits None = None
+-- the first of the words as a field, and the words behind it
+abbrev pub first_read : {A : Type 0} → (List ℕ → Option A) → List (List ℕ) → Option (A × List (List ℕ))
+first_read read [] = None
+first_read read (word ∷ words) = do
+  x ← read word
+  Some (x, words)
 
--- a line of so many fields, each read by its type
-abbrev pub one : {A : Type 0} → (List ℕ → Option A) → (A → Line) → List ℕ → Option Line
-one read line a = do
-  x ← read a
-  Some (line x)
+-- a line of so many fields, each read by its type, and the words behind them
+abbrev pub Found : Type 0
+Found = Line × List (List ℕ)
 
-abbrev pub two : {A B : Type 0} → (List ℕ → Option A) → (List ℕ → Option B) → (A → B → Line) → List ℕ → List ℕ → Option Line
-two read next line a b = do
-  x ← read a
-  one next (line x) b
+abbrev pub one : {A : Type 0} → (List ℕ → Option A) → (A → Line) → List (List ℕ) → Option Found
+one read line words = do
+  x ← first_read read words
+  Some (line x.0, x.1)
 
-abbrev pub three : {A B C : Type 0} → (List ℕ → Option A) → (List ℕ → Option B) → (List ℕ → Option C) → (A → B → C → Line) → List ℕ → List ℕ → List ℕ → Option Line
-three read next third line a b c = do
-  x ← read a
-  two next third (line x) b c
+abbrev pub two : {A B : Type 0} → (List ℕ → Option A) → (List ℕ → Option B) → (A → B → Line) → List (List ℕ) → Option Found
+two read next line words = do
+  x ← first_read read words
+  one next (line x.0) x.1
 
-abbrev pub four : {A B C D : Type 0} → (List ℕ → Option A) → (List ℕ → Option B) → (List ℕ → Option C) → (List ℕ → Option D) → (A → B → C → D → Line) → List ℕ → List ℕ → List ℕ → List ℕ → Option Line
-four read next third last line a b c d = do
-  x ← read a
-  three next third last (line x) b c d
+abbrev pub three : {A B C : Type 0} → (List ℕ → Option A) → (List ℕ → Option B) → (List ℕ → Option C) → (A → B → C → Line) → List (List ℕ) → Option Found
+three read next third line words = do
+  x ← first_read read words
+  two next third (line x.0) x.1
 
--- THE TABLE, READ: by the number of words, and then by the first
+abbrev pub four : {A B C D : Type 0} → (List ℕ → Option A) → (List ℕ → Option B) → (List ℕ → Option C) → (List ℕ → Option D) → (A → B → C → D → Line) → List (List ℕ) → Option Found
+four read next third last line words = do
+  x ← first_read read words
+  three next third last (line x.0) x.1
 
-abbrev pub one_word : List ℕ → List ℕ → Option Line
-one_word name a =
-    if bytes_eq name (codes "waited") then one lane_named Waited a
-    else (if bytes_eq name (codes "posted") then one lane_named Posted a
-    else (if bytes_eq name (codes "recalled") then one lane_named Recalled a
-    else (if bytes_eq name (codes "cleared") then one lane_named Cleared a
-    else None)))
+-- the line of a name, whose fields stand first in the words
+abbrev pub line_named : List ℕ → List (List ℕ) → Option Found
+line_named name words =
+    if bytes_eq name (codes "took") then two lane_named short_in Took words
+    else (if bytes_eq name (codes "refused") then three lane_named short_in why_in Refused words
+    else (if bytes_eq name (codes "made") then four lane_named long_in long_in long_in Made words
+    else (if bytes_eq name (codes "waited") then one lane_named Waited words
+    else (if bytes_eq name (codes "posted") then one lane_named Posted words
+    else (if bytes_eq name (codes "flying") then two lane_named long_in Flying words
+    else (if bytes_eq name (codes "landed") then two lane_named long_in Landed words
+    else (if bytes_eq name (codes "failed") then three lane_named long_in kind_named Failed words
+    else (if bytes_eq name (codes "marked") then three lane_named long_in short_in Marked words
+    else (if bytes_eq name (codes "cut") then three lane_named long_in short_in Cut words
+    else (if bytes_eq name (codes "dropped") then four lane_named long_in long_in short_in Dropped words
+    else (if bytes_eq name (codes "txhome") then two lane_named long_in TxHome words
+    else (if bytes_eq name (codes "opened") then two lane_named long_in Opened words
+    else (if bytes_eq name (codes "gave") then two lane_named long_in Gave words
+    else (if bytes_eq name (codes "recalled") then one lane_named Recalled words
+    else (if bytes_eq name (codes "cleared") then one lane_named Cleared words
+    else (if bytes_eq name (codes "did") then two short_in flag_in Control words
+    else (if bytes_eq name (codes "settled") then four short_in short_in short_in short_in Settled words
+    else None)))))))))))))))))
 
-abbrev pub two_words : List ℕ → List ℕ → List ℕ → Option Line
-two_words name a b =
-    if bytes_eq name (codes "took") then two lane_named short_in Took a b
-    else (if bytes_eq name (codes "flying") then two lane_named long_in Flying a b
-    else (if bytes_eq name (codes "landed") then two lane_named long_in Landed a b
-    else (if bytes_eq name (codes "txhome") then two lane_named long_in TxHome a b
-    else (if bytes_eq name (codes "opened") then two lane_named long_in Opened a b
-    else (if bytes_eq name (codes "did") then two short_in flag_in Control a b
-    else None)))))
+-- The digits of a line's bytes: the only word that is left where it carries bytes; else no word is left.
+abbrev pub only_word : List (List ℕ) → Option (List ℕ)
+only_word (digits ∷ []) = if length digits == 0 then None else Some digits
+only_word words = None
 
-abbrev pub three_words : List ℕ → List ℕ → List ℕ → List ℕ → Option Line
-three_words name a b c =
-    if bytes_eq name (codes "refused") then three lane_named short_in why_in Refused a b c
-    else (if bytes_eq name (codes "failed") then three lane_named long_in kind_named Failed a b c
-    else (if bytes_eq name (codes "marked") then three lane_named long_in short_in Marked a b c
-    else (if bytes_eq name (codes "cut") then three lane_named long_in short_in Cut a b c
-    else None)))
+abbrev pub no_word : List (List ℕ) → Option (List ℕ)
+no_word [] = Some []
+no_word words = None
 
-abbrev pub four_words : List ℕ → List ℕ → List ℕ → List ℕ → List ℕ → Option Line
-four_words name a b c d =
-    if bytes_eq name (codes "dropped") then four lane_named long_in long_in short_in Dropped a b c d
-    else (if bytes_eq name (codes "settled") then four short_in short_in short_in short_in Settled a b c d
-    else None)
+abbrev pub digits_left : Line → List (List ℕ) → Option (List ℕ)
+digits_left (Made l k a b) words = only_word words
+digits_left (Gave l n) words = only_word words
+digits_left line words = no_word words
 
--- the words before those of the bytes
-abbrev pub gave_line : List ℕ → List ℕ → Option Line
-gave_line a b = two lane_named long_in Gave a b
-
-abbrev pub made_line : List ℕ → List ℕ → List ℕ → List ℕ → Option Line
-made_line a b c d = four lane_named long_in long_in long_in Made a b c d
+-- a line with these digits in the place of its bytes
+abbrev pub with_digits : Found → Option Entry
+with_digits found = do
+  digits ← digits_left found.0 found.1
+  Some (found.0, digits)
 
 abbrev pub line_of : List (List ℕ) → Option Entry
-line_of (name ∷ a ∷ []) = without_bytes (one_word name a)
-line_of (name ∷ a ∷ b ∷ []) = without_bytes (two_words name a b)
-line_of (name ∷ a ∷ b ∷ c ∷ []) = if bytes_eq name (codes "gave") then with_bytes c (gave_line a b) else without_bytes (three_words name a b c)
-line_of (name ∷ a ∷ b ∷ c ∷ d ∷ []) = without_bytes (four_words name a b c d)
-line_of (name ∷ a ∷ b ∷ c ∷ d ∷ e ∷ []) = if bytes_eq name (codes "made") then with_bytes e (made_line a b c d) else None
-line_of words = None
+line_of [] = None
+line_of (name ∷ words) = line_named name words >>= with_digits
 
 unfoldable pub line_in : List ℕ → Option Entry
 line_in text = line_of (words_in text)

@@ -5,16 +5,16 @@ mod actions;
 mod boxed;
 mod census;
 mod controls;
+mod fields;
 mod got;
-mod heads;
 mod journal;
 mod laws;
 mod lines;
 mod machine;
+mod rows;
 #[cfg(test)]
 mod tests;
 mod texts;
-mod trace_lines;
 mod trace_reader;
 mod writer;
 

@@ -3,6 +3,7 @@
 ghost use Rattle.std.specs.Prelude.{◌≡◌, []};
 ghost use Rattle.un_journal.specs.History;
 
+use crate::rows::concerns;
 use un_frame::{FaultKind, Lane, Verdict};
 
 /// One line of a history: a step of the link that changed it, or a part of one. `Made` and `Gave` carry at least one byte, the
@@ -109,28 +110,9 @@ pub enum Line {
 
 impl Line {
     /// Whether it speaks of the lane; a settled line speaks of both.
-    pub fn concerns(self, at: Lane) -> bool
-        ensures { result ≡ History.concerns at (self, []) }
+    pub fn concerns(self, lane: Lane) -> bool
+        ensures { result ≡ History.concerns lane (self, []) }
     {
-        match self {
-            Line::Took { lane, .. }
-            | Line::Refused { lane, .. }
-            | Line::Made { lane, .. }
-            | Line::Waited { lane }
-            | Line::Posted { lane }
-            | Line::Flying { lane, .. }
-            | Line::Landed { lane, .. }
-            | Line::Failed { lane, .. }
-            | Line::Marked { lane, .. }
-            | Line::Cut { lane, .. }
-            | Line::Dropped { lane, .. }
-            | Line::TxHome { lane, .. }
-            | Line::Opened { lane, .. }
-            | Line::Gave { lane, .. }
-            | Line::Recalled { lane }
-            | Line::Cleared { lane } => at == lane,
-            Line::Control { .. } => false,
-            Line::Settled { .. } => true,
-        }
+        concerns(self, lane)
     }
 }

@@ -11,7 +11,7 @@ ghost use Rattle.un_journal.specs.TraceRead.{TraceReads};
 ghost use Rattle.un_journal.specs.declared.trace_reader.TraceError.TheVariants.{BadTrace};
 
 use crate::journal::{Journal, Stored, journal_of};
-use crate::trace_lines::line;
+use crate::rows::line;
 use std::alloc::Global;
 use thiserror::Error;
 use un_text::{cut_line, is};

@@ -7,9 +7,9 @@ ghost use Rattle.un_journal.specs.Text.{bytes_words, entry_text, trace};
 ghost use Rattle.un_text.specs.Puts.{Puts};
 ghost use Rattle.un_text.specs.Words.{spaced};
 
-use crate::heads::head;
 use crate::journal::Journal;
 use crate::lines::Line;
+use crate::rows::head;
 use un_io::{Sink, WriteFault};
 use un_text::Page;
 

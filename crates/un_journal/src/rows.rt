@@ -1,0 +1,122 @@
+//! The table of lines, as it is written and read: each kind's word, and its fields in their order.
+
+ghost use Rattle.std.specs.Prelude.{◌≡◌, ◌≤◌, ◌++◌, [], MatchOption, Some, None, length};
+ghost use Rattle.un_journal.specs.History;
+ghost use Rattle.un_journal.specs.Text.{name_of, words_of};
+ghost use Rattle.un_journal.specs.TraceLines.{left, line_in, line_named, line_of, digits_left};
+ghost use Rattle.un_text.specs.Words.{spaced};
+
+use crate::fields::{Typed, first_field};
+use crate::lines::Line;
+use un_frame::Lane;
+use un_text::{Buffer, cut_word, is};
+
+/// Hands the table to a macro, behind what that is given.
+macro_rules! rows {
+    ($with:ident $given:tt) => {
+        $with! {
+            $given
+            Took b"took" { lane sender }
+            Refused b"refused" { lane sender why }
+            Made b"made" { lane serial from to }
+            Waited b"waited" { lane }
+            Posted b"posted" { lane }
+            Flying b"flying" { lane serial }
+            Landed b"landed" { lane serial }
+            Failed b"failed" { lane serial kind }
+            Marked b"marked" { lane serial cause }
+            Cut b"cut" { lane serial cause }
+            Dropped b"dropped" { lane from to cause }
+            TxHome b"txhome" { lane serial }
+            Opened b"opened" { lane serial }
+            Gave b"gave" { lane number }
+            Recalled b"recalled" { lane }
+            Cleared b"cleared" { lane }
+            Control b"did" { index forced }
+            Settled b"settled" { tx_out rx_out tx_in rx_in }
+        }
+    };
+}
+
+macro_rules! write_row {
+    (($buffer:ident $line:ident) $($kind:ident $name:literal { $($field:ident)* })*) => {
+        match $line {
+            $(Line::$kind { $($field),* } => {
+                $buffer.push($name);
+                $($field.put($buffer);)*
+            })*
+        }
+    };
+}
+
+macro_rules! read_row {
+    (($word:ident $rest:ident) $($kind:ident $name:literal { $($field:ident)* })*) => {{
+        $(if is($word, $name) {
+            $(let ($field, $rest) = first_field($rest)?;)*
+            return Some((Line::$kind { $($field),* }, $rest));
+        })*
+        None
+    }};
+}
+
+macro_rules! begin_row {
+    (($lane:ident $line:ident) $($kind:ident $name:literal { $first:ident $($more:ident)* })*) => {
+        match $line {
+            $(Line::$kind { $first, .. } => $first.is_lane($lane),)*
+        }
+    };
+}
+
+/// Adds a line's name and its words, but for the word of its bytes: at most 91 bytes.
+pub fn head(buffer: &mut Buffer, line: Line)
+    requires { length buffer.old ≤ 8064 }
+    ensures { buffer.new ≡ buffer.old ++ (name_of line ++ spaced (words_of line)) }
+{
+    rows!(write_row(buffer line))
+}
+
+/// The line of this name whose fields stand first in the words that are left, and the words behind them.
+fn named<'a>(name: &[u8], rest: Option<&'a [u8]>) -> Option<(Line, Option<&'a [u8]>)>
+    ensures { MatchOption result (line_named name.now (left (λ t. t.now) rest.entry) ≡ None) (λ p. line_named name.now (left (λ t. t.now) rest.entry) ≡ Some (p.0, left (λ t. t.now) p.1)) }
+{
+    rows!(read_row(name rest))
+}
+
+/// The word of a line's bytes, which is the only one left where the line carries some; empty where it carries none, and none is left.
+#[tactic(auto, using(crate::proofs::ReadLines::some_left, crate::proofs::ReadLines::more_left))]
+fn digits(line: Line, rest: Option<&[u8]>) -> Option<&[u8]>
+    ensures { MatchOption result (digits_left line (left (λ t. t.now) rest.entry) ≡ None) (λ d. digits_left line (left (λ t. t.now) rest.entry) ≡ Some d.now) }
+{
+    let carries = matches!(line, Line::Made { .. } | Line::Gave { .. });
+    let Some(rest) = rest else {
+        return if carries { None } else { Some(b"") };
+    };
+    if !carries {
+        return None;
+    }
+    let (digits, rest) = cut_word(rest);
+    if rest.is_some() || digits.is_empty() {
+        return None;
+    }
+    Some(digits)
+}
+
+/// A line of a trace without its line feed, and the word of its bytes, empty where it carries none. The word isn't read yet.
+#[tactic(auto, using(crate::proofs::ReadLines::heard))]
+pub fn line(text: &[u8]) -> Option<(Line, &[u8])>
+    ensures { MatchOption result (line_in text.now ≡ None) (λ p. line_in text.now ≡ Some (p.0, p.1.now)) }
+{
+    let (name, rest) = cut_word(text);
+    let (line, rest) = named(name, rest)?;
+    Some((line, digits(line, rest)?))
+}
+
+/// Whether a line speaks of the lane, which is then its first field; a settled line speaks of both.
+pub fn concerns(line: Line, lane: Lane) -> bool
+    ensures { result ≡ History.concerns lane (line, []) }
+{
+    match line {
+        Line::Settled { .. } => true,
+        _ => rows!(begin_row(lane line)),
+    }
+}
