@@ -38,6 +38,7 @@ impl Typed for Lane {
     ghost use Rattle.un_frame.specs.Spelling.{lane_named};
 
     ghost field = { lane };
+
     ghost named = { lane_named };
 
     fn put(self, buffer: &mut Buffer) {
@@ -58,6 +59,7 @@ impl Typed for u32 {
     ghost use Rattle.un_text.specs.Words.{short_in};
 
     ghost field = { short };
+
     ghost named = { short_in };
 
     fn put(self, buffer: &mut Buffer) {
@@ -78,6 +80,7 @@ impl Typed for u64 {
     ghost use Rattle.un_text.specs.Words.{long_in};
 
     ghost field = { long };
+
     ghost named = { long_in };
 
     fn put(self, buffer: &mut Buffer) {
@@ -98,6 +101,7 @@ impl Typed for Verdict {
     ghost use Rattle.un_text.specs.Words.{why_in};
 
     ghost field = { reason };
+
     ghost named = { why_in };
 
     fn put(self, buffer: &mut Buffer) {
@@ -118,6 +122,7 @@ impl Typed for FaultKind {
     ghost use Rattle.un_text.specs.Words.{kind_named};
 
     ghost field = { fault };
+
     ghost named = { kind_named };
 
     fn put(self, buffer: &mut Buffer) {
@@ -138,6 +143,7 @@ impl Typed for bool {
     ghost use Rattle.un_text.specs.Words.{flag_in};
 
     ghost field = { flag };
+
     ghost named = { flag_in };
 
     fn put(self, buffer: &mut Buffer) {

@@ -11,35 +11,37 @@ use crate::lines::Line;
 use un_frame::Lane;
 use un_text::{Buffer, cut_word, is};
 
-/// Hands the table to a macro, behind what that is given.
+/// Hands the table to a macro, behind what that is given. A row is the first word of a kind's text, and its fields in the order of
+/// their words, each spelled by its type.
 macro_rules! rows {
     ($with:ident $given:tt) => {
         $with! {
             $given
-            Took b"took" { lane sender }
-            Refused b"refused" { lane sender why }
-            Made b"made" { lane serial from to }
-            Waited b"waited" { lane }
-            Posted b"posted" { lane }
-            Flying b"flying" { lane serial }
-            Landed b"landed" { lane serial }
-            Failed b"failed" { lane serial kind }
-            Marked b"marked" { lane serial cause }
-            Cut b"cut" { lane serial cause }
-            Dropped b"dropped" { lane from to cause }
-            TxHome b"txhome" { lane serial }
-            Opened b"opened" { lane serial }
-            Gave b"gave" { lane number }
-            Recalled b"recalled" { lane }
-            Cleared b"cleared" { lane }
-            Control b"did" { index forced }
-            Settled b"settled" { tx_out rx_out tx_in rx_in }
+            b"took" => Took { lane, sender },
+            b"refused" => Refused { lane, sender, why },
+            b"made" => Made { lane, serial, from, to },
+            b"waited" => Waited { lane },
+            b"posted" => Posted { lane },
+            b"flying" => Flying { lane, serial },
+            b"landed" => Landed { lane, serial },
+            b"failed" => Failed { lane, serial, kind },
+            b"marked" => Marked { lane, serial, cause },
+            b"cut" => Cut { lane, serial, cause },
+            b"dropped" => Dropped { lane, from, to, cause },
+            b"txhome" => TxHome { lane, serial },
+            b"opened" => Opened { lane, serial },
+            b"gave" => Gave { lane, number },
+            b"recalled" => Recalled { lane },
+            b"cleared" => Cleared { lane },
+            b"did" => Control { index, forced },
+            b"settled" => Settled { tx_out, rx_out, tx_in, rx_in },
         }
     };
 }
 
+/// Writes a line by its row.
 macro_rules! write_row {
-    (($buffer:ident $line:ident) $($kind:ident $name:literal { $($field:ident)* })*) => {
+    (($buffer:ident, $line:ident) $($name:literal => $kind:ident { $($field:ident),* },)*) => {
         match $line {
             $(Line::$kind { $($field),* } => {
                 $buffer.push($name);
@@ -49,8 +51,9 @@ macro_rules! write_row {
     };
 }
 
+/// Reads the line whose row has this word, and what is left of the words.
 macro_rules! read_row {
-    (($word:ident $rest:ident) $($kind:ident $name:literal { $($field:ident)* })*) => {{
+    (($word:ident, $rest:ident) $($name:literal => $kind:ident { $($field:ident),* },)*) => {{
         $(if is($word, $name) {
             $(let ($field, $rest) = first_field($rest)?;)*
             return Some((Line::$kind { $($field),* }, $rest));
@@ -59,8 +62,9 @@ macro_rules! read_row {
     }};
 }
 
+/// Asks a line's first field whether it is this lane.
 macro_rules! begin_row {
-    (($lane:ident $line:ident) $($kind:ident $name:literal { $first:ident $($more:ident)* })*) => {
+    (($line:ident, $lane:ident) $($name:literal => $kind:ident { $first:ident $(, $more:ident)* },)*) => {
         match $line {
             $(Line::$kind { $first, .. } => $first.is_lane($lane),)*
         }
@@ -72,14 +76,14 @@ pub fn head(buffer: &mut Buffer, line: Line)
     requires { length buffer.old ≤ 8064 }
     ensures { buffer.new ≡ buffer.old ++ (name_of line ++ spaced (words_of line)) }
 {
-    rows!(write_row(buffer line))
+    rows!(write_row(buffer, line))
 }
 
 /// The line of this name whose fields stand first in the words that are left, and the words behind them.
 fn named<'a>(name: &[u8], rest: Option<&'a [u8]>) -> Option<(Line, Option<&'a [u8]>)>
     ensures { MatchOption result (line_named name.now (left (λ t. t.now) rest.entry) ≡ None) (λ p. line_named name.now (left (λ t. t.now) rest.entry) ≡ Some (p.0, left (λ t. t.now) p.1)) }
 {
-    rows!(read_row(name rest))
+    rows!(read_row(name, rest))
 }
 
 /// The word of a line's bytes, which is the only one left where the line carries some; empty where it carries none, and none is left.
@@ -117,6 +121,6 @@ pub fn concerns(line: Line, lane: Lane) -> bool
 {
     match line {
         Line::Settled { .. } => true,
-        _ => rows!(begin_row(lane line)),
+        _ => rows!(begin_row(line, lane)),
     }
 }
