@@ -5,6 +5,7 @@ pub mod Parts
 pub mod Plan
 pub mod Ready
 pub mod Reading
+pub mod Reasons
 pub mod Examples
 pub mod Law
 pub mod Load

@@ -1,5 +1,8 @@
 //! Why a line is refused.
 
+ghost use Rattle.std.specs.Prelude.{◌≡◌, ◌≤◌, length};
+ghost use Rattle.un_script.specs.Reasons;
+
 use std::fmt::{self, Display, Formatter, Write};
 use thiserror::Error;
 
@@ -24,9 +27,13 @@ pub enum Why {
     Fault,
 }
 
-impl Display for Why {
-    fn fmt<W: Write>(&self, f: &mut Formatter<W>) -> fmt::Result {
-        f.write_str(match self {
+impl Why {
+    /// Its word: at most 7 bytes.
+    pub fn word(self) -> &'static str
+        ensures word { result.now ≡ Reasons.why_word self }
+        ensures short { length result.now ≤ 7 }
+    {
+        match self {
             Why::Word => "word",
             Why::Order => "order",
             Why::Number => "number",
@@ -35,7 +42,13 @@ impl Display for Why {
             Why::Count => "count",
             Why::Control => "control",
             Why::Fault => "fault",
-        })
+        }
+    }
+}
+
+impl Display for Why {
+    fn fmt<W: Write>(&self, f: &mut Formatter<W>) -> fmt::Result {
+        f.write_str(self.word())
     }
 }
 
