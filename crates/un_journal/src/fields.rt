@@ -1,7 +1,8 @@
 //! The fields of a line, each written and read by its type.
 
 ghost use Rattle.std.specs.Prelude.{◌≡◌, ◌+◌, ◌≤◌, ◌∷◌, ◌++◌, [], ℕ, List, Option, MatchOption, Some, None, length};
-ghost use Rattle.un_journal.specs.Lines.{Field, begin_with, spelled};
+ghost use Rattle.un_journal.specs.Lines;
+ghost use Rattle.un_journal.specs.Lines.{begin_with, spelled};
 ghost use Rattle.un_journal.specs.TraceLines.{first_read, left};
 
 use un_frame::{FaultKind, Lane, Verdict};
@@ -11,9 +12,9 @@ use un_text::{
 };
 
 /// A field of a line, by its type.
-pub trait Typed: Copy {
-    /// It as a field.
-    ghost field: { Self → Field };
+pub trait Field: Copy {
+    /// It with its type.
+    ghost as_field: { Self → Lines.Field };
 
     /// What a word says.
     ghost named: { List ℕ → Option Self };
@@ -21,7 +22,7 @@ pub trait Typed: Copy {
     /// Adds its word behind a space: at most 21 bytes.
     fn put(self, buffer: &mut Buffer)
         requires { length buffer.old + 21 ≤ 8192 }
-        ensures text { buffer.new ≡ buffer.old ++ 32 ∷ spelled (field self) }
+        ensures text { buffer.new ≡ buffer.old ++ 32 ∷ spelled (as_field self) }
         ensures longer { length buffer.new ≤ length buffer.old + 21 };
 
     /// The field that a word says.
@@ -30,14 +31,14 @@ pub trait Typed: Copy {
 
     /// Whether it is this lane.
     fn is_lane(self, lane: Lane) -> bool
-        ensures { result ≡ begin_with lane (field self ∷ []) };
+        ensures { result ≡ begin_with lane (as_field self ∷ []) };
 }
 
-impl Typed for Lane {
+impl Field for Lane {
     ghost use Rattle.un_journal.specs.Lines.{lane};
     ghost use Rattle.un_frame.specs.Spelling.{lane_named};
 
-    ghost field = { lane };
+    ghost as_field = { lane };
 
     ghost named = { lane_named };
 
@@ -54,11 +55,11 @@ impl Typed for Lane {
     }
 }
 
-impl Typed for u32 {
+impl Field for u32 {
     ghost use Rattle.un_journal.specs.Lines.{short};
     ghost use Rattle.un_text.specs.Words.{short_in};
 
-    ghost field = { short };
+    ghost as_field = { short };
 
     ghost named = { short_in };
 
@@ -75,11 +76,11 @@ impl Typed for u32 {
     }
 }
 
-impl Typed for u64 {
+impl Field for u64 {
     ghost use Rattle.un_journal.specs.Lines.{long};
     ghost use Rattle.un_text.specs.Words.{long_in};
 
-    ghost field = { long };
+    ghost as_field = { long };
 
     ghost named = { long_in };
 
@@ -96,11 +97,11 @@ impl Typed for u64 {
     }
 }
 
-impl Typed for Verdict {
+impl Field for Verdict {
     ghost use Rattle.un_journal.specs.Lines.{reason};
     ghost use Rattle.un_text.specs.Words.{why_in};
 
-    ghost field = { reason };
+    ghost as_field = { reason };
 
     ghost named = { why_in };
 
@@ -117,11 +118,11 @@ impl Typed for Verdict {
     }
 }
 
-impl Typed for FaultKind {
+impl Field for FaultKind {
     ghost use Rattle.un_journal.specs.Lines.{fault};
     ghost use Rattle.un_text.specs.Words.{kind_named};
 
-    ghost field = { fault };
+    ghost as_field = { fault };
 
     ghost named = { kind_named };
 
@@ -138,11 +139,11 @@ impl Typed for FaultKind {
     }
 }
 
-impl Typed for bool {
+impl Field for bool {
     ghost use Rattle.un_journal.specs.Lines.{flag};
     ghost use Rattle.un_text.specs.Words.{flag_in};
 
-    ghost field = { flag };
+    ghost as_field = { flag };
 
     ghost named = { flag_in };
 
@@ -160,7 +161,7 @@ impl Typed for bool {
 }
 
 /// The first of the words that are left of a line, as a field, and the words behind it.
-pub fn first_field<F: Typed>(rest: Option<&[u8]>) -> Option<(F, Option<&[u8]>)>
+pub fn first_field<F: Field>(rest: Option<&[u8]>) -> Option<(F, Option<&[u8]>)>
     ensures { MatchOption result (first_read F.named (left (λ t. t.now) rest.entry) ≡ None) (λ p. first_read F.named (left (λ t. t.now) rest.entry) ≡ Some (p.0, left (λ t. t.now) p.1)) }
 {
     let (word, rest) = cut_word(rest?);

@@ -6,7 +6,7 @@ ghost use Rattle.un_journal.specs.Text.{name_of, words_of};
 ghost use Rattle.un_journal.specs.TraceLines.{left, line_in, line_named, line_of, digits_left};
 ghost use Rattle.un_text.specs.Words.{spaced};
 
-use crate::fields::{Typed, first_field};
+use crate::fields::{Field, first_field};
 use crate::lines::Line;
 use un_frame::Lane;
 use un_text::{Buffer, cut_word, is};

@@ -10,6 +10,7 @@ fn a_text_is_put(rt: HostRuntime) -> Result<(), Fail> {
     let mut sink = MemSink::make(rt.alloc(), 99, 99, Vec::new(rt.alloc()))?;
     let mut page = Page::blank();
     page.put(&mut sink, b"frame");
+    page.reserve(&mut sink, 64);
     word(&mut page.pending, lane_word(Lane::Inward));
     number(&mut page.pending, 7);
     page.put(&mut sink, b" ");
