@@ -14,7 +14,7 @@ use Rattle.un_journal.specs.Lines.{Field, Row, lane, short, long, reason, fault,
 use Rattle.un_journal.specs.Log.{FitsTypes, HasReason, CarriesItsBytes}
 use Rattle.un_journal.specs.Text.{name_of, words_of}
 use Rattle.un_text.specs.Words.{words_in, why_in, flag_in, short_in, long_in, kind_named}
-use Rattle.un_journal.specs.TraceLines.{◌>>=◌, Found, first_read, only_word, no_word, digits_left, one, two, three, four, line_named, with_digits, line_of, line_in}
+use Rattle.un_journal.specs.TraceLines.{◌>>=◌, Found, first_read, only_word, no_word, digits_left, one, two, three, four, one_named, two_named, three_named, four_named, or, line_named, with_digits, line_of, line_in}
 use Rattle.un_text.proofs.ReadWords.{words_some}
 use Rattle.un_text.proofs.ReadFields.{never, lane_sound, lane_back, why_sound, why_back, kind_sound, kind_back, flag_sound, flag_back, short_sound, short_back, long_sound, long_back}
 
@@ -127,27 +127,50 @@ named name word words found here there is other h =
 
 -- THE TABLE
 
-named_sound : (name : List ℕ) (words : List (List ℕ)) (found : Found) → line_named name words ≡ Some found → Says name words found
-named_sound name words found h =
-    named name (codes "took") words found _ _ (two_says lanes shorts Took (codes "took") words found (λ x y. refl) (λ x y. tt))
-    (named name (codes "refused") words found _ _ (three_says lanes shorts reasons Refused (codes "refused") words found (λ x y z. refl) (λ x y z w e. (why_sound w z e).1))
-    (named name (codes "made") words found _ _ (four_says lanes longs longs longs Made (codes "made") words found (λ x y z v. refl) (λ x y z v. tt))
-    (named name (codes "waited") words found _ _ (one_says lanes Waited (codes "waited") words found (λ x. refl) (λ x. tt))
+one_sound : (name : List ℕ) (words : List (List ℕ)) (found : Found) → one_named name words ≡ Some found → Says name words found
+one_sound name words found h =
+    named name (codes "waited") words found _ _ (one_says lanes Waited (codes "waited") words found (λ x. refl) (λ x. tt))
     (named name (codes "posted") words found _ _ (one_says lanes Posted (codes "posted") words found (λ x. refl) (λ x. tt))
+    (named name (codes "recalled") words found _ _ (one_says lanes Recalled (codes "recalled") words found (λ x. refl) (λ x. tt))
+    (named name (codes "cleared") words found _ None (one_says lanes Cleared (codes "cleared") words found (λ x. refl) (λ x. tt))
+    (never (Says name words found) found)))) h
+
+two_sound : (name : List ℕ) (words : List (List ℕ)) (found : Found) → two_named name words ≡ Some found → Says name words found
+two_sound name words found h =
+    named name (codes "took") words found _ _ (two_says lanes shorts Took (codes "took") words found (λ x y. refl) (λ x y. tt))
     (named name (codes "flying") words found _ _ (two_says lanes longs Flying (codes "flying") words found (λ x y. refl) (λ x y. tt))
     (named name (codes "landed") words found _ _ (two_says lanes longs Landed (codes "landed") words found (λ x y. refl) (λ x y. tt))
-    (named name (codes "failed") words found _ _ (three_says lanes longs faults Failed (codes "failed") words found (λ x y z. refl) (λ x y z w e. tt))
-    (named name (codes "marked") words found _ _ (three_says lanes longs shorts Marked (codes "marked") words found (λ x y z. refl) (λ x y z w e. tt))
-    (named name (codes "cut") words found _ _ (three_says lanes longs shorts Cut (codes "cut") words found (λ x y z. refl) (λ x y z w e. tt))
-    (named name (codes "dropped") words found _ _ (four_says lanes longs longs shorts Dropped (codes "dropped") words found (λ x y z v. refl) (λ x y z v. tt))
     (named name (codes "txhome") words found _ _ (two_says lanes longs TxHome (codes "txhome") words found (λ x y. refl) (λ x y. tt))
     (named name (codes "opened") words found _ _ (two_says lanes longs Opened (codes "opened") words found (λ x y. refl) (λ x y. tt))
     (named name (codes "gave") words found _ _ (two_says lanes longs Gave (codes "gave") words found (λ x y. refl) (λ x y. tt))
-    (named name (codes "recalled") words found _ _ (one_says lanes Recalled (codes "recalled") words found (λ x. refl) (λ x. tt))
-    (named name (codes "cleared") words found _ _ (one_says lanes Cleared (codes "cleared") words found (λ x. refl) (λ x. tt))
-    (named name (codes "did") words found _ _ (two_says shorts flags Control (codes "did") words found (λ x y. refl) (λ x y. tt))
+    (named name (codes "did") words found _ None (two_says shorts flags Control (codes "did") words found (λ x y. refl) (λ x y. tt))
+    (never (Says name words found) found))))))) h
+
+three_sound : (name : List ℕ) (words : List (List ℕ)) (found : Found) → three_named name words ≡ Some found → Says name words found
+three_sound name words found h =
+    named name (codes "refused") words found _ _ (three_says lanes shorts reasons Refused (codes "refused") words found (λ x y z. refl) (λ x y z w e. (why_sound w z e).1))
+    (named name (codes "failed") words found _ _ (three_says lanes longs faults Failed (codes "failed") words found (λ x y z. refl) (λ x y z w e. tt))
+    (named name (codes "marked") words found _ _ (three_says lanes longs shorts Marked (codes "marked") words found (λ x y z. refl) (λ x y z w e. tt))
+    (named name (codes "cut") words found _ None (three_says lanes longs shorts Cut (codes "cut") words found (λ x y z. refl) (λ x y z w e. tt))
+    (never (Says name words found) found)))) h
+
+four_sound : (name : List ℕ) (words : List (List ℕ)) (found : Found) → four_named name words ≡ Some found → Says name words found
+four_sound name words found h =
+    named name (codes "made") words found _ _ (four_says lanes longs longs longs Made (codes "made") words found (λ x y z v. refl) (λ x y z v. tt))
+    (named name (codes "dropped") words found _ _ (four_says lanes longs longs shorts Dropped (codes "dropped") words found (λ x y z v. refl) (λ x y z v. tt))
     (named name (codes "settled") words found _ None (four_says shorts shorts shorts shorts Settled (codes "settled") words found (λ x y z v. refl) (λ x y z v. tt))
-    (never (Says name words found) found)))))))))))))))))) h
+    (never (Says name words found) found))) h
+
+either : (P : Type 0) (here there : Option Found) (found : Found) → (here ≡ Some found → P) → (there ≡ Some found → P) → or here there ≡ Some found → P
+either P (Some x) there found first second h = first h
+either P None there found first second h = second h
+
+named_sound : (name : List ℕ) (words : List (List ℕ)) (found : Found) → line_named name words ≡ Some found → Says name words found
+named_sound name words found h =
+    let P : Type 0 = Says name words found in
+    either P (one_named name words) _ found (one_sound name words found)
+    (either P (two_named name words) _ found (two_sound name words found)
+    (either P (three_named name words) (four_named name words) found (three_sound name words found) (four_sound name words found))) h
 
 -- the words of a line's digits, where it carries some
 abbrev pub digit_words : List ℕ → List (List ℕ)

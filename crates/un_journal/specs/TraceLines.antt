@@ -51,28 +51,47 @@ four read next third last line words = do
   x ← first_read read words
   three next third last (line x.0) x.1
 
--- the line of a name, whose fields stand first in the words
-abbrev pub line_named : List ℕ → List (List ℕ) → Option Found
-line_named name words =
-    if bytes_eq name (codes "took") then two lane_named short_in Took words
-    else (if bytes_eq name (codes "refused") then three lane_named short_in why_in Refused words
-    else (if bytes_eq name (codes "made") then four lane_named long_in long_in long_in Made words
-    else (if bytes_eq name (codes "waited") then one lane_named Waited words
+-- The line of a name, whose fields stand first in the words: rows of one field, of two, of three and of four.
+abbrev pub one_named : List ℕ → List (List ℕ) → Option Found
+one_named name words =
+    if bytes_eq name (codes "waited") then one lane_named Waited words
     else (if bytes_eq name (codes "posted") then one lane_named Posted words
+    else (if bytes_eq name (codes "recalled") then one lane_named Recalled words
+    else (if bytes_eq name (codes "cleared") then one lane_named Cleared words
+    else None)))
+
+abbrev pub two_named : List ℕ → List (List ℕ) → Option Found
+two_named name words =
+    if bytes_eq name (codes "took") then two lane_named short_in Took words
     else (if bytes_eq name (codes "flying") then two lane_named long_in Flying words
     else (if bytes_eq name (codes "landed") then two lane_named long_in Landed words
-    else (if bytes_eq name (codes "failed") then three lane_named long_in kind_named Failed words
-    else (if bytes_eq name (codes "marked") then three lane_named long_in short_in Marked words
-    else (if bytes_eq name (codes "cut") then three lane_named long_in short_in Cut words
-    else (if bytes_eq name (codes "dropped") then four lane_named long_in long_in short_in Dropped words
     else (if bytes_eq name (codes "txhome") then two lane_named long_in TxHome words
     else (if bytes_eq name (codes "opened") then two lane_named long_in Opened words
     else (if bytes_eq name (codes "gave") then two lane_named long_in Gave words
-    else (if bytes_eq name (codes "recalled") then one lane_named Recalled words
-    else (if bytes_eq name (codes "cleared") then one lane_named Cleared words
     else (if bytes_eq name (codes "did") then two short_in flag_in Control words
+    else None))))))
+
+abbrev pub three_named : List ℕ → List (List ℕ) → Option Found
+three_named name words =
+    if bytes_eq name (codes "refused") then three lane_named short_in why_in Refused words
+    else (if bytes_eq name (codes "failed") then three lane_named long_in kind_named Failed words
+    else (if bytes_eq name (codes "marked") then three lane_named long_in short_in Marked words
+    else (if bytes_eq name (codes "cut") then three lane_named long_in short_in Cut words
+    else None)))
+
+abbrev pub four_named : List ℕ → List (List ℕ) → Option Found
+four_named name words =
+    if bytes_eq name (codes "made") then four lane_named long_in long_in long_in Made words
+    else (if bytes_eq name (codes "dropped") then four lane_named long_in long_in short_in Dropped words
     else (if bytes_eq name (codes "settled") then four short_in short_in short_in short_in Settled words
-    else None)))))))))))))))))
+    else None))
+
+abbrev pub or : Option Found → Option Found → Option Found
+or (Some found) other = Some found
+or None other = other
+
+abbrev pub line_named : List ℕ → List (List ℕ) → Option Found
+line_named name words = or (one_named name words) (or (two_named name words) (or (three_named name words) (four_named name words)))
 
 -- The digits of a line's bytes: the only word that is left where it carries bytes; else no word is left.
 abbrev pub only_word : List (List ℕ) → Option (List ℕ)

@@ -3,6 +3,7 @@
 ghost use Rattle.std.specs.Prelude.{◌≡◌, ◌≤◌, ◌++◌, [], MatchOption, Some, None, length};
 ghost use Rattle.un_journal.specs.History;
 ghost use Rattle.un_journal.specs.Text.{name_of, words_of};
+ghost use Rattle.un_journal.specs.TraceLines;
 ghost use Rattle.un_journal.specs.TraceLines.{left, line_in, line_named, line_of, digits_left};
 ghost use Rattle.un_text.specs.Words.{spaced};
 
@@ -51,15 +52,35 @@ macro_rules! write_row {
     };
 }
 
-/// Reads the line whose row has this word, and what is left of the words.
-macro_rules! read_row {
-    (($word:ident, $rest:ident) $($name:literal => $kind:ident { $($field:ident),* },)*) => {{
-        $(if is($word, $name) {
-            $(let ($field, $rest) = first_field($rest)?;)*
-            return Some((Line::$kind { $($field),* }, $rest));
-        })*
+/// Reads the line whose row has this word and so many fields, and what is left of the words.
+macro_rules! read_rows {
+    (($count:tt, $word:ident, $rest:ident) $($name:literal => $kind:ident { $($field:ident),* },)*) => {{
+        $(read_row!($count, $word, $rest, $name, $kind, $($field),*);)*
         None
     }};
+}
+
+/// Reads a line by its row, where that has so many fields.
+macro_rules! read_row {
+    (1, $word:ident, $rest:ident, $name:literal, $kind:ident, $a:ident) => {
+        read_row!(row, $word, $rest, $name, $kind, $a)
+    };
+    (2, $word:ident, $rest:ident, $name:literal, $kind:ident, $a:ident, $b:ident) => {
+        read_row!(row, $word, $rest, $name, $kind, $a, $b)
+    };
+    (3, $word:ident, $rest:ident, $name:literal, $kind:ident, $a:ident, $b:ident, $c:ident) => {
+        read_row!(row, $word, $rest, $name, $kind, $a, $b, $c)
+    };
+    (4, $word:ident, $rest:ident, $name:literal, $kind:ident, $a:ident, $b:ident, $c:ident, $d:ident) => {
+        read_row!(row, $word, $rest, $name, $kind, $a, $b, $c, $d)
+    };
+    (row, $word:ident, $rest:ident, $name:literal, $kind:ident, $($field:ident),*) => {
+        if is($word, $name) {
+            $(let ($field, $rest) = first_field($rest)?;)*
+            return Some((Line::$kind { $($field),* }, $rest));
+        }
+    };
+    ($($other:tt)*) => {};
 }
 
 /// Asks a line's first field whether it is this lane.
@@ -79,11 +100,48 @@ pub fn head(buffer: &mut Buffer, line: Line)
     rows!(write_row(buffer, line))
 }
 
-/// The line of this name whose fields stand first in the words that are left, and the words behind them.
+/// The line of this name with one field, which stand first in the words that are left, and the words behind them.
+fn one_named<'a>(name: &[u8], rest: Option<&'a [u8]>) -> Option<(Line, Option<&'a [u8]>)>
+    ensures { MatchOption result (TraceLines.one_named name.now (left (λ t. t.now) rest.entry) ≡ None) (λ p. TraceLines.one_named name.now (left (λ t. t.now) rest.entry) ≡ Some (p.0, left (λ t. t.now) p.1)) }
+{
+    rows!(read_rows(1, name, rest))
+}
+
+/// The line of this name with two fields, which stand first in the words that are left, and the words behind them.
+fn two_named<'a>(name: &[u8], rest: Option<&'a [u8]>) -> Option<(Line, Option<&'a [u8]>)>
+    ensures { MatchOption result (TraceLines.two_named name.now (left (λ t. t.now) rest.entry) ≡ None) (λ p. TraceLines.two_named name.now (left (λ t. t.now) rest.entry) ≡ Some (p.0, left (λ t. t.now) p.1)) }
+{
+    rows!(read_rows(2, name, rest))
+}
+
+/// The line of this name with three fields, which stand first in the words that are left, and the words behind them.
+fn three_named<'a>(name: &[u8], rest: Option<&'a [u8]>) -> Option<(Line, Option<&'a [u8]>)>
+    ensures { MatchOption result (TraceLines.three_named name.now (left (λ t. t.now) rest.entry) ≡ None) (λ p. TraceLines.three_named name.now (left (λ t. t.now) rest.entry) ≡ Some (p.0, left (λ t. t.now) p.1)) }
+{
+    rows!(read_rows(3, name, rest))
+}
+
+/// The line of this name with four fields, which stand first in the words that are left, and the words behind them.
+fn four_named<'a>(name: &[u8], rest: Option<&'a [u8]>) -> Option<(Line, Option<&'a [u8]>)>
+    ensures { MatchOption result (TraceLines.four_named name.now (left (λ t. t.now) rest.entry) ≡ None) (λ p. TraceLines.four_named name.now (left (λ t. t.now) rest.entry) ≡ Some (p.0, left (λ t. t.now) p.1)) }
+{
+    rows!(read_rows(4, name, rest))
+}
+
+/// The line of this name, and the words behind its fields.
 fn named<'a>(name: &[u8], rest: Option<&'a [u8]>) -> Option<(Line, Option<&'a [u8]>)>
     ensures { MatchOption result (line_named name.now (left (λ t. t.now) rest.entry) ≡ None) (λ p. line_named name.now (left (λ t. t.now) rest.entry) ≡ Some (p.0, left (λ t. t.now) p.1)) }
 {
-    rows!(read_row(name, rest))
+    if let Some(found) = one_named(name, rest) {
+        return Some(found);
+    }
+    if let Some(found) = two_named(name, rest) {
+        return Some(found);
+    }
+    if let Some(found) = three_named(name, rest) {
+        return Some(found);
+    }
+    four_named(name, rest)
 }
 
 /// The word of a line's bytes, which is the only one left where the line carries some; empty where it carries none, and none is left.
