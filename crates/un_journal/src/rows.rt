@@ -4,7 +4,7 @@ ghost use Rattle.std.specs.Prelude.{◌≡◌, ◌≤◌, ◌++◌, [], MatchOpt
 ghost use Rattle.un_journal.specs.History;
 ghost use Rattle.un_journal.specs.Text.{name_of, words_of};
 ghost use Rattle.un_journal.specs.TraceLines;
-ghost use Rattle.un_journal.specs.TraceLines.{left, line_in, line_named, line_of, digits_left};
+ghost use Rattle.un_journal.specs.TraceLines.{left, line_in, line_named, digits_left};
 ghost use Rattle.un_text.specs.Words.{spaced};
 
 use crate::fields::{Field, first_field};
