@@ -1,5 +1,5 @@
 -- How a command ends: what becomes of the sink, and what a status says.
-use Rattle.std.proofs.Common.{ℕ, ◌≤◌, ◌≡◌, List, ◌++◌, Option, Some, Result, Ok, Err, OnOk, OnErr, refl, sym, ap, subst, ◌∙◌, arith}
+use Rattle.std.proofs.Common.{ℕ, ◌≤◌, ◌≡◌, List, [], ◌++◌, Option, Some, Result, Ok, Err, OnOk, OnErr, is_err, refl, sym, ap, subst, ◌∙◌, arith}
 use Rattle.std.specs.Io.KnownBytes.{Appends}
 use Rattle.un_frame.specs.declared.params.Class.{Class}
 use Rattle.un_io.specs.Io.{Rose, Stopped}
@@ -10,6 +10,9 @@ use Rattle.un_journal.specs.History.{History}
 use Rattle.un_script.specs.declared.why.Why.{Why}
 use Rattle.un_script.specs.Reading.{script_of}
 use Rattle.un_setup.specs.declared.agreement.SetupFault.TheVariants.{BadDivisor, BadAlignment, NoFit, NoMemory as NoRoom}
+use Rattle.un_text.specs.declared.page.Page.{Page}
+use Rattle.un_text.specs.Puts.{Puts, blank}
+use Rattle.un_text.proofs.Putting.{whole_cause, whole_stopped, whole_written}
 use Rattle.usbnet_run.specs.Command.{Answers, answers_decode, answers_serial}
 use Rattle.usbnet_run.specs.Decode.{Decodes, bad_transfer, decoded}
 use Rattle.usbnet_run.specs.Loads.{Loads, loaded, wants_memory as load_wants_memory}
@@ -37,6 +40,10 @@ pub unread : (words : List (List ℕ)) (given : List ℕ) (left : Option (List �
 unread words given left Serial refusal is stop = answers_serial (Err refusal) (sym is) (OfInput.stops refusal stop)
 unread words given left (Decode class) refusal is stop = answers_decode class (Err refusal) (sym is) (OfInput.stops refusal stop)
 
+-- the refusal of an exit
+pub one_refusal : {A : Type 0} (result : Result A Refusal) (told refusal : Refusal) → result ≡ Err told → result ≡ Err refusal → told ≡ refusal
+one_refusal result told refusal a b = cc
+
 -- WHAT BECOMES OF THE SINK
 
 -- a text that was written as a whole
@@ -50,6 +57,12 @@ pub writes_then : (h i j : Option (List ℕ)) (a b c : ℕ) (front back : List �
     → OnErr written (Stopped i j back) → OnErr written (Rose b c) → Writes h j a c (front ++ back) written
 writes_then h i j a b c front back (Ok all) before le t s r = Appends-then h i j front back before t
 writes_then h i j a b c front back (Err fault) before le t s r = (Stopped-then h i j front back before s, λ few. let rose = r few in omega (arith, le, rose))
+
+-- one that was put on a page
+pub writes_put : (written : Result (Unit {0}) WriteFault) (h i : Option (List ℕ)) (a b : ℕ) (q : Page) (text : List ℕ) → q.pending ≡ [] → is_err written ≡ q.failed → Puts h a blank i b q text
+    → Writes h i a b text written
+writes_put (Ok all) h i a b q text none e u = whole_written (Ok all) h i a b q text none e u
+writes_put (Err fault) h i a b q text none e u = (whole_stopped (Err fault) h i a b q text e u, whole_cause (Err fault) h i a b q text e u)
 
 -- an answer of one kind as an answer of another
 pub does_as : (P Q : Answer → Type 0) (h i : Option (List ℕ)) (a b : ℕ) (ending : Ending) → ((answer : Answer) → P answer → Q answer) → Does P h i a b ending → Does Q h i a b ending
@@ -65,7 +78,7 @@ pub finished : (P : Answer → Type 0) (h i j : Option (List ℕ)) (a b c : ℕ)
     → (answer : Answer) × P answer × Prints h j a c answer (ending_status ending)
 finished P h i j a b c (Ok (Ok all)) d same = (Ok d.0, d.1, done d.0 (subst (λ (x : Option (List ℕ)). Appends h x d.0) (sym same.0) d.2))
 finished P h i j a b c (Ok (Err fault)) d same =
-    (Ok d.0, d.1, stopped d.0 (subst (λ (x : Option (List ℕ)). Stopped h x d.0) (sym same.0) d.2) (subst (λ (n : ℕ). Rose a n) (sym same.1) d.3))
+    (Ok d.0, d.1, stopped d.0 (subst (λ (x : Option (List ℕ)). Stopped h x d.0) (sym same.0) d.2.0) (subst (λ (n : ℕ). Rose a n) (sym same.1) d.2.1))
 finished P h i j a b c (Err refusal) d told =
     let K : Option (List ℕ) → Type 0 = λ x. Tells x j b c refusal in
     let L : ℕ → Type 0 = λ n. Tells h j n c refusal in

@@ -1,8 +1,6 @@
 //! The command decode: the frames of one transfer, as a text.
 
-ghost use Rattle.std.specs.Prelude.{◌≡◌, ◌+◌, ◌≤◌, ◌++◌, [], length, OnOk, OnErr};
-ghost use Rattle.std.specs.Io.KnownBytes.{Appends};
-ghost use Rattle.un_io.specs.Io.{Rose, Stopped};
+ghost use Rattle.std.specs.Prelude.{◌≡◌, ◌+◌, ◌≤◌, ◌++◌, [], length};
 ghost use Rattle.usbnet_run.specs.Decode.{
   Decodes,
   commands_text,
@@ -12,7 +10,7 @@ ghost use Rattle.usbnet_run.specs.Decode.{
   frame_lines,
   head_text,
 };
-ghost use Rattle.usbnet_run.specs.Refusals.{Does};
+ghost use Rattle.usbnet_run.specs.Refusals.{Does, Writes};
 ghost use Rattle.un_text.specs.Puts.{Puts};
 
 use crate::refusal::{Ending, Refusal};
@@ -83,10 +81,8 @@ fn put_frames<O: Sink>(out: &mut O, page: &mut Page, parts: &mut Parts, count: u
 /// Adds the text of a transfer that was read to a sink. At a write fault the sink has grown by a front of that text, and not by all of it.
 /// Takes no memory, and copies no frame.
 fn write_decoded<O: Sink>(out: &mut O, class: Class, parts: &mut Parts) -> Result<(), WriteFault>
-    ensures written { OnOk result (Appends (O.held out.old) (O.held out.new) (decoded_text class parts.old.frames parts.old.commands)) }
-    ensures stopped { OnErr result (Stopped (O.held out.old) (O.held out.new) (decoded_text class parts.old.frames parts.old.commands)) }
+    ensures writes { Writes (O.held out.old) (O.held out.new) (O.faults out.old) (O.faults out.new) (decoded_text class parts.old.frames parts.old.commands) result }
     ensures never_falls { O.faults out.old ≤ O.faults out.new }
-    ensures cause { OnErr result (Rose (O.faults out.old) (O.faults out.new)) }
 {
     let commands = parts.commands();
     let count = parts.count();

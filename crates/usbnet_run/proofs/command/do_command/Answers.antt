@@ -1,25 +1,27 @@
-use Rattle.std.proofs.Common.{[], Err, refl, subst, sym, ◌∙◌}
+use Rattle.std.proofs.Common.{[], Err, refl, ap, subst, sym, ◌∙◌}
 use Rattle.std.proofs.lemmas.Result.{err_from_is_err_and}
 use Rattle.un_io.proofs.Known.{Consumes-none}
 use Rattle.usbnet_run.specs.Command.{Answers, IsDrained}
 use Rattle.usbnet_run.specs.Decode.{Decodes}
 use Rattle.usbnet_run.specs.Reading.{OfInput}
 use Rattle.usbnet_run.specs.Runs.{Runs}
-use Rattle.usbnet_run.proofs.Endings.{decode_asked, decode_reads, does_as, is_answer, run_reads, serial_asked, unread}
+use Rattle.usbnet_run.proofs.Endings.{decode_asked, decode_reads, does_as, is_answer, one_refusal, run_reads, serial_asked, unread}
 use Rattle.usbnet_run.proofs.command.do_command.Goals as goal
 
 pub returns-in_default-clause-does : goal.returns-in_default-clause-does
 returns-in_default-clause-does g c =
-    ([], Consumes-none (g.I.Source.left c.args.input.now), Answers.bad_words (sym c.in_default.ensures) refl, refl, refl)
+    ([], Consumes-none (g.I.Source.left c.args.input.now), (Answers.bad_words (sym c.in_default.ensures) refl, refl, refl))
 
 pub returns-in_err-text-clause-does : goal.returns-in_err-text-clause-does
 returns-in_err-text-clause-does g c =
     let r = c.in_err-text.ensures.given in
     let p = err_from_is_err_and c.from_residual.result c.from_residual.ensures.1 in
-    rw (p.1, p.2) (r.0, r.1, unread _ r.0 _ c.in-Some.command _ c.in-Some.ensures r.2, refl, refl)
+    rw (p.1, p.2) (r.0, r.1, (unread _ r.0 _ c.in-Some.command _ c.in-Some.ensures r.2, refl, refl))
 
 pub returns-in_err-text-clause-read_fault : goal.returns-in_err-text-clause-read_fault
-returns-in_err-text-clause-read_fault g c = _
+returns-in_err-text-clause-read_fault g c =
+    let p = err_from_is_err_and c.from_residual.result c.from_residual.ensures.1 in
+    λ e. c.in_err-text.ensures.cause (ap (λ r. Err r) (sym p.2 ∙ one_refusal c.from_residual.result _ _ p.1 e))
 
 pub returns-in-Decode-clause-does : goal.returns-in-Decode-clause-does
 returns-in-Decode-clause-does g c =

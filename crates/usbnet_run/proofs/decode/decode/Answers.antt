@@ -1,16 +1,14 @@
 use Rattle.std.proofs.Common.{arith, refl, sym}
 use Rattle.usbnet_run.specs.Decode.{Decodes, decoded_text}
 use Rattle.usbnet_run.proofs.Decoding.{outside}
-use Rattle.usbnet_run.proofs.Endings.{writes_of}
 use Rattle.usbnet_run.proofs.decode.decode.Goals as goal
 
 pub returns-in-Ok-clause-does : goal.returns-in-Ok-clause-does
-returns-in-Ok-clause-does g c =
-    let w = c.write_decoded.ensures in (
-      decoded_text c.args.class c.in-Ok.parts.frames c.in-Ok.parts.commands,
-      Decodes.decoded c.in-Ok.parts.frames c.in-Ok.parts.commands c.in-Ok.ensures.found,
-      writes_of _ _ _ _ _ _ c.write_decoded.result refl w.written w.stopped w.cause,
-    )
+returns-in-Ok-clause-does g c = (
+  decoded_text c.args.class c.in-Ok.parts.frames c.in-Ok.parts.commands,
+  Decodes.decoded c.in-Ok.parts.frames c.in-Ok.parts.commands c.in-Ok.ensures.found,
+  c.write_decoded.ensures.writes,
+)
 
 pub returns-in-Err-clause-does : goal.returns-in-Err-clause-does
 returns-in-Err-clause-does g c =
