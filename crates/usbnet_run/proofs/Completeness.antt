@@ -140,11 +140,6 @@ fits given left status whole other = record { only = λ e. absurd (other e); alw
 
 -- where reading stops, nothing is known of the input but its size
 module _ (given : List ℕ) where
-  before : (refusal : Refusal) (mine : ℕ) → StopsReading given refusal → 2 < mine → (mine ≡ 7 → ⊥) → refusal_status refusal ≡ mine → ⊥
-  before _ mine no_memory more other e = omega (arith, more, e)
-  before _ mine (read_fault size) more other e = omega (arith, more, e)
-  before _ mine (too_large size) more other e = other (sym e)
-
   unread : (refusal : Refusal) (mine : ℕ) (IsDue : Type 0) → StopsReading given refusal → 2 < mine → (mine ≡ 7 → ⊥) → ComesExactly given (refusal_status refusal) mine IsDue
   unread _ mine IsDue no_memory more other = wanted given 1 mine IsDue refl (omega (arith, more))
   unread _ mine IsDue (read_fault size) more other = record { only = λ e. absurd (omega (arith, more, e)); always = λ few due c. absurd (c refl) }
@@ -177,10 +172,10 @@ output_exact given left script status small whole run = record {
 pub run_exact : (EndsWith : Script → History → Type 0) (given : List ℕ) (left held held' : Option (List ℕ)) (faults faults' : ℕ) (answer : Answer) (status : ℕ)
     → OfInput (Runs EndsWith) given left answer → Prints held held' faults faults' answer status → RunsExactly given status
 run_exact EndsWith given left held held' faults faults' _ _ (stops refusal s) (refused _ t) = record {
-  not_words = before given refusal 4 s (omega arith) (λ e. omega (arith, e));
+  not_words = (unread given refusal 4 ⊥ s (omega arith) (λ e. omega (arith, e))).only;
   of_script = unread given refusal 5 (IsNoScript given) s (omega arith) (λ e. omega (arith, e));
   of_setup = unread given refusal 6 (IsUnagreed given) s (omega arith) (λ e. omega (arith, e));
-  not_transfer = before given refusal 8 s (omega arith) (λ e. omega (arith, e));
+  not_transfer = (unread given refusal 8 ⊥ s (omega arith) (λ e. omega (arith, e))).only;
   of_size = unread_size given refusal s;
 }
 run_exact EndsWith given left held held' faults faults' _ _ (reads _ whole (printed script agreed history run)) (done _ t) = output_exact given left script 0 (omega arith) whole run
@@ -244,8 +239,9 @@ pub exact : RefusalsAreExact
 exact words given left held held' faults faults' status (ends answer (answers_serial _ w input) t) =
     serial_exact words given status w (run_exact IsDrained given left held held' faults faults' answer status input t)
 exact words given left held held' faults faults' _ (ends _ (answers_decode class _ w (stops refusal s)) (refused _ t)) =
-    decode_exact words given (refusal_status refusal) class w (before given refusal 4 s (omega arith) (λ e. omega (arith, e))) (before given refusal 5 s (omega arith) (λ e. omega (arith, e)))
-    (before given refusal 6 s (omega arith) (λ e. omega (arith, e))) (unread given refusal 8 (OfTransfer words given) s (omega arith) (λ e. omega (arith, e))) (unread_size given refusal s)
+    let other : (mine : ℕ) → 2 < mine → (mine ≡ 7 → ⊥) → refusal_status refusal ≡ mine → ⊥ = λ mine more not. (unread given refusal mine ⊥ s more not).only in
+    decode_exact words given (refusal_status refusal) class w (other 4 (omega arith) (λ e. omega (arith, e))) (other 5 (omega arith) (λ e. omega (arith, e)))
+    (other 6 (omega arith) (λ e. omega (arith, e))) (unread given refusal 8 (OfTransfer words given) s (omega arith) (λ e. omega (arith, e))) (unread_size given refusal s)
 exact words given left held held' faults faults' _ (ends _ (answers_decode class _ w (reads _ whole (decoded frames commands r))) (done _ t)) = text_exact words given left 0 class frames commands (omega arith) w whole r
 exact words given left held held' faults faults' _ (ends _ (answers_decode class _ w (reads _ whole (decoded frames commands r))) (stopped _ t cause)) = text_exact words given left 3 class frames commands (omega arith) w whole r
 exact words given left held held' faults faults' _ (ends _ (answers_decode class _ w (reads _ whole (bad_transfer fault out f))) (refused _ t)) =
