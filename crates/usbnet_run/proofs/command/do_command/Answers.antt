@@ -31,7 +31,7 @@ returns-in-Decode-clause-does g c =
       r.0,
       r.1,
       does_as (Decodes class _) (Answers _ r.0 _) _ _ _ _ c.decode.result
-      (λ answer d. Answers.answers_decode class answer asked (OfInput.reads answer r.2.1 (subst (λ t. Decodes class t answer) (c.deref.ensures.value ∙ r.2.0) d))) c.decode.ensures.does,
+          (λ answer d. Answers.answers_decode class answer asked (OfInput.reads answer r.2.1 (subst (λ t. Decodes class t answer) (c.deref.ensures.value ∙ r.2.0) d))) c.decode.ensures.does,
     )
 
 pub returns-in-Decode-clause-read_fault : goal.returns-in-Decode-clause-read_fault
@@ -45,7 +45,7 @@ returns-in-Serial-clause-does g c =
       r.0,
       r.1,
       does_as (Runs IsDrained _) (Answers _ r.0 _) _ _ _ _ c.serial.result
-      (λ answer s. Answers.answers_serial answer asked (OfInput.reads answer r.2.1 (subst (λ t. Runs IsDrained t answer) r.2.0 s))) c.serial.ensures.does,
+          (λ answer s. Answers.answers_serial answer asked (OfInput.reads answer r.2.1 (subst (λ t. Runs IsDrained t answer) r.2.0 s))) c.serial.ensures.does,
     )
 
 pub returns-in-Serial-clause-read_fault : goal.returns-in-Serial-clause-read_fault

@@ -18,6 +18,6 @@ returns-in_ok-prepared-clause-does g c =
     let history = drain script [] in (
       output script prepared.agreed history,
       Runs.printed script prepared.agreed history
-      (run_of IsDrained _ prepared.link prepared.agreed history c.in_ok-prepared.ensures.prepared refl (drained_is_done script history refl) c.drain_and_print.ensures.entries),
+          (run_of IsDrained _ prepared.link prepared.agreed history c.in_ok-prepared.ensures.prepared refl (drained_is_done script history refl) c.drain_and_print.ensures.entries),
       c.drain_and_print.ensures.writes,
     )

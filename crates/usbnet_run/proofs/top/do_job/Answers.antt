@@ -27,7 +27,7 @@ returns-in_ok-text-in-Run-clause-does g c =
       r.0,
       r.1,
       does_as (Runs IsKept _) (MainAnswers _ r.0 _) _ _ _ _ c.run.result
-      (λ answer s. MainAnswers.answers_run answer (sym c.in-Run.ensures) (OfInput.reads answer r.2.1 (subst (λ t. Runs IsKept t answer) r.2.0 s))) c.run.ensures.does,
+          (λ answer s. MainAnswers.answers_run answer (sym c.in-Run.ensures) (OfInput.reads answer r.2.1 (subst (λ t. Runs IsKept t answer) r.2.0 s))) c.run.ensures.does,
     )
 
 pub returns-in_ok-text-in-Run-clause-read_fault : goal.returns-in_ok-text-in-Run-clause-read_fault
