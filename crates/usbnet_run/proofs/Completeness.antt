@@ -10,8 +10,8 @@ use Rattle.un_script.specs.declared.why.Why.{Why}
 use Rattle.un_script.specs.Reading.{script_of}
 use Rattle.un_setup.specs.declared.agreement.Agreed.{Agreed}
 use Rattle.un_wire.proofs.CursorLemmas.{readings_are_one}
-use Rattle.usbnet_run.specs.Command.{ComesExactly, DecodeIsComplete, IsComplete, IsDrained, IsUnagreed, RefusalsAreExact, RefusesExactly, TooLargeExactly, answers_decode, answers_serial, bad_words, ends}
-use Rattle.usbnet_run.specs.Decode.{IsOutside, bad_transfer, decoded, decoded_text}
+use Rattle.usbnet_run.specs.Command.{ComesExactly, DecodeIsComplete, IsComplete, IsDrained, IsUnagreed, RefusalsAreExact, TooLargeExactly, answers_decode, answers_serial, bad_words, ends}
+use Rattle.usbnet_run.specs.Decode.{Decodes, IsOutside, bad_transfer, decoded, decoded_text}
 use Rattle.usbnet_run.specs.Reading.{IsWhole, MOST_INPUT, OfInput, StopsReading, no_memory, read_fault, reads, stops, too_large}
 use Rattle.usbnet_run.specs.Refusals.{Answer, Prints, done, refusal_status, refused, stopped}
 use Rattle.usbnet_run.specs.Runs.{HasPrinted, IsNoScript, IsRun, Runs, not_a_script, not_agreed, printed, refuses, wants_memory}
@@ -121,11 +121,6 @@ is_agreed given script run bad =
     let same : script ≡ bad.0 = one_script script bad.0 (script_of given) run.script_is bad.1 in
     bad.2 (subst (λ (x : Script). Agree x.params) same run.agrees)
 
--- a transfer that was read isn't outside the grammar of the words' class
-is_inside : (asked : Option Command) (class other : Class) (given : List ℕ) (frames : List (List ℕ)) (commands : ℕ) → asked ≡ Some (Decode class) → asked ≡ Some (Decode other)
-    → Reads class given frames commands → IsOutside other given → ⊥
-is_inside asked class other given frames commands a b r out = out frames commands (reads_as asked class other given given frames commands a b refl r)
-
 -- a refusal that isn't due, and has another status
 never : (given : List ℕ) (status mine : ℕ) (IsDue : Type 0) → (status ≡ mine → ⊥) → (IsDue → ⊥) → ComesExactly given status mine IsDue
 never given status mine IsDue other not = record { only = λ e. absurd (other e); always = λ few due c. absurd (not due) }
@@ -134,12 +129,24 @@ never given status mine IsDue other not = record { only = λ e. absurd (other e)
 wanted : (given : List ℕ) (status mine : ℕ) (IsDue : Type 0) → status ≡ 1 → 1 < mine → ComesExactly given status mine IsDue
 wanted given status mine IsDue one more = record { only = λ e. absurd (omega (arith, one, more, e)); always = λ few due c. inr one }
 
+-- the same, said otherwise
+comes_as : (given : List ℕ) (status mine : ℕ) (IsDue IsOther : Type 0) → (IsDue → IsOther) → (IsOther → IsDue) → ComesExactly given status mine IsDue → ComesExactly given status mine IsOther
+comes_as given status mine IsDue IsOther f g e = record { only = λ s. f (e.only s); always = λ few due c. e.always few (g due) c }
+
 -- the input was read whole, and so isn't too large
 fits : (given : List ℕ) (left : Option (List ℕ)) (status : ℕ) → IsWhole given left → (status ≡ 7 → ⊥) → TooLargeExactly given status
 fits given left status whole other = record { only = λ e. absurd (other e); always = λ big. let few = whole.1 in absurd (omega (arith, few, big)) }
 
--- where reading stops, nothing is known of the input but its size
-module _ (given : List ℕ) where
+-- what is due of a command over its input
+pub record InputExactly (given : List ℕ) (status : ℕ) (IsScript IsSetup IsTransfer : Type 0) : Type 0 where
+  pub not_words : status ≡ 4 → ⊥
+  pub of_script : ComesExactly given status 5 IsScript
+  pub of_setup : ComesExactly given status 6 IsSetup
+  pub of_transfer : ComesExactly given status 8 IsTransfer
+  pub of_size : TooLargeExactly given status
+
+module _ (given : List ℕ) (left : Option (List ℕ)) (IsScript IsSetup IsTransfer : Type 0) where
+  -- where reading stops, nothing is known of the input but its size
   unread : (refusal : Refusal) (mine : ℕ) (IsDue : Type 0) → StopsReading given refusal → 2 < mine → (mine ≡ 7 → ⊥) → ComesExactly given (refusal_status refusal) mine IsDue
   unread _ mine IsDue no_memory more other = wanted given 1 mine IsDue refl (omega (arith, more))
   unread _ mine IsDue (read_fault size) more other = record { only = λ e. absurd (omega (arith, more, e)); always = λ few due c. absurd (c refl) }
@@ -150,107 +157,92 @@ module _ (given : List ℕ) where
   unread_size _ (read_fault size) = record { only = λ e. absurd (omega (arith, e)); always = λ big. absurd (omega (arith, size, big)) }
   unread_size _ (too_large size) = record { only = λ e. omega (arith, size); always = λ big. inl refl }
 
--- what is due of a run, by serial or by run
-pub record RunsExactly (given : List ℕ) (status : ℕ) : Type 0 where
-  pub not_words : status ≡ 4 → ⊥
-  pub of_script : ComesExactly given status 5 (IsNoScript given)
-  pub of_setup : ComesExactly given status 6 (IsUnagreed given)
-  pub not_transfer : status ≡ 8 → ⊥
-  pub of_size : TooLargeExactly given status
+  unread_exact : (refusal : Refusal) → StopsReading given refusal → InputExactly given (refusal_status refusal) IsScript IsSetup IsTransfer
+  unread_exact refusal s = record {
+    not_words = (unread refusal 4 ⊥ s (omega arith) (λ e. omega (arith, e))).only;
+    of_script = unread refusal 5 IsScript s (omega arith) (λ e. omega (arith, e));
+    of_setup = unread refusal 6 IsSetup s (omega arith) (λ e. omega (arith, e));
+    of_transfer = unread refusal 8 IsTransfer s (omega arith) (λ e. omega (arith, e));
+    of_size = unread_size refusal s;
+  }
 
--- the output was written, or a write of it failed
-output_exact : {EndsWith : Script → History → Type 0} {agreed : Agreed} {history : History} (given : List ℕ) (left : Option (List ℕ)) (script : Script) (status : ℕ) → status ≤ 3 → IsWhole given left
-    → IsRun EndsWith given script agreed history → RunsExactly given status
-output_exact given left script status small whole run = record {
-  not_words = λ e. omega (arith, small, e);
-  of_script = never given status 5 (IsNoScript given) (λ e. omega (arith, small, e)) (is_script given script run.script_is);
-  of_setup = never given status 6 (IsUnagreed given) (λ e. omega (arith, small, e)) (is_agreed given script run);
-  not_transfer = λ e. omega (arith, small, e);
-  of_size = fits given left status whole (λ e. omega (arith, small, e));
-}
+  -- the output was written, or a write of it failed
+  output_exact : (status : ℕ) → status ≤ 3 → IsWhole given left → (IsScript → ⊥) → (IsSetup → ⊥) → (IsTransfer → ⊥) → InputExactly given status IsScript IsSetup IsTransfer
+  output_exact status small whole a b d = record {
+    not_words = λ e. omega (arith, small, e);
+    of_script = never given status 5 IsScript (λ e. omega (arith, small, e)) a;
+    of_setup = never given status 6 IsSetup (λ e. omega (arith, small, e)) b;
+    of_transfer = never given status 8 IsTransfer (λ e. omega (arith, small, e)) d;
+    of_size = fits given left status whole (λ e. omega (arith, small, e));
+  }
 
 pub run_exact : (EndsWith : Script → History → Type 0) (given : List ℕ) (left held held' : Option (List ℕ)) (faults faults' : ℕ) (answer : Answer) (status : ℕ)
-    → OfInput (Runs EndsWith) given left answer → Prints held held' faults faults' answer status → RunsExactly given status
-run_exact EndsWith given left held held' faults faults' _ _ (stops refusal s) (refused _ t) = record {
-  not_words = (unread given refusal 4 ⊥ s (omega arith) (λ e. omega (arith, e))).only;
-  of_script = unread given refusal 5 (IsNoScript given) s (omega arith) (λ e. omega (arith, e));
-  of_setup = unread given refusal 6 (IsUnagreed given) s (omega arith) (λ e. omega (arith, e));
-  not_transfer = (unread given refusal 8 ⊥ s (omega arith) (λ e. omega (arith, e))).only;
-  of_size = unread_size given refusal s;
-}
-run_exact EndsWith given left held held' faults faults' _ _ (reads _ whole (printed script agreed history run)) (done _ t) = output_exact given left script 0 (omega arith) whole run
-run_exact EndsWith given left held held' faults faults' _ _ (reads _ whole (printed script agreed history run)) (stopped _ t cause) = output_exact given left script 3 (omega arith) whole run
+    → OfInput (Runs EndsWith) given left answer → Prints held held' faults faults' answer status → InputExactly given status (IsNoScript given) (IsUnagreed given) ⊥
+run_exact EndsWith given left held held' faults faults' _ _ (stops refusal s) (refused _ t) = unread_exact given left _ _ _ refusal s
+run_exact EndsWith given left held held' faults faults' _ _ (reads _ whole (printed script agreed history run)) (done _ t) =
+    output_exact given left _ _ _ 0 (omega arith) whole (is_script given script run.script_is) (is_agreed given script run) (λ none. none)
+run_exact EndsWith given left held held' faults faults' _ _ (reads _ whole (printed script agreed history run)) (stopped _ t cause) =
+    output_exact given left _ _ _ 3 (omega arith) whole (is_script given script run.script_is) (is_agreed given script run) (λ none. none)
 run_exact EndsWith given left held held' faults faults' _ _ (reads _ whole (refuses refusal (wants_memory _ one))) (refused _ t) = record {
   not_words = λ e. omega (arith, one, e);
-  of_script = wanted given (refusal_status refusal) 5 (IsNoScript given) one (omega arith);
-  of_setup = wanted given (refusal_status refusal) 6 (IsUnagreed given) one (omega arith);
-  not_transfer = λ e. omega (arith, one, e);
+  of_script = wanted given (refusal_status refusal) 5 _ one (omega arith);
+  of_setup = wanted given (refusal_status refusal) 6 _ one (omega arith);
+  of_transfer = wanted given (refusal_status refusal) 8 _ one (omega arith);
   of_size = fits given left (refusal_status refusal) whole (λ e. omega (arith, one, e));
 }
 run_exact EndsWith given left held held' faults faults' _ _ (reads _ whole (refuses _ (not_a_script line why is))) (refused _ t) = record {
   not_words = λ e. omega (arith, e);
   of_script = record { only = λ e. (line, why, is); always = λ few due c. inl refl };
-  of_setup = never given 5 6 (IsUnagreed given) (λ e. omega (arith, e)) (λ due. is_script given due.0 due.1 (line, why, is));
-  not_transfer = λ e. omega (arith, e);
+  of_setup = never given 5 6 _ (λ e. omega (arith, e)) (λ due. is_script given due.0 due.1 (line, why, is));
+  of_transfer = never given 5 8 _ (λ e. omega (arith, e)) (λ none. none);
   of_size = fits given left 5 whole (λ e. omega (arith, e));
 }
 run_exact EndsWith given left held held' faults faults' _ _ (reads _ whole (refuses _ (not_agreed script fault is none not six))) (refused refusal t) = record {
   not_words = λ e. omega (arith, six, e);
-  of_script = never given (refusal_status refusal) 5 (IsNoScript given) (λ e. omega (arith, six, e)) (is_script given script is);
+  of_script = never given (refusal_status refusal) 5 _ (λ e. omega (arith, six, e)) (is_script given script is);
   of_setup = record { only = λ e. (script, is, not); always = λ few due c. inl six };
-  not_transfer = λ e. omega (arith, six, e);
+  of_transfer = never given (refusal_status refusal) 8 _ (λ e. omega (arith, six, e)) (λ none. none);
   of_size = fits given left (refusal_status refusal) whole (λ e. omega (arith, six, e));
 }
 
--- of the words that ask for it
-asked : (given : List ℕ) (status mine : ℕ) (IsAsked IsDue : Type 0) → IsAsked → ComesExactly given status mine IsDue → ComesExactly given status mine (IsAsked × IsDue)
-asked given status mine IsAsked IsDue w e = record { only = λ s. (w, e.only s); always = λ few due c. e.always few due.1 c }
-
-serial_exact : (words : List (List ℕ)) (given : List ℕ) (status : ℕ) → command_of words ≡ Some Serial → RunsExactly given status → RefusesExactly words given status
-serial_exact words given status w e = record {
-  of_words = good_words words Serial status w e.not_words;
-  of_script = asked given status 5 (command_of words ≡ Some Serial) (IsNoScript given) w e.of_script;
-  of_setup = asked given status 6 (command_of words ≡ Some Serial) (IsUnagreed given) w e.of_setup;
-  of_transfer = never given status 8 _ e.not_transfer (λ due. two_ways (command_of words) due.0 w due.1);
-  of_size = e.of_size;
+decode_exact : (class : Class) (given : List ℕ) (left held held' : Option (List ℕ)) (faults faults' : ℕ) (answer : Answer) (status : ℕ)
+    → OfInput (Decodes class) given left answer → Prints held held' faults faults' answer status → InputExactly given status ⊥ ⊥ (IsOutside class given)
+decode_exact class given left held held' faults faults' _ _ (stops refusal s) (refused _ t) = unread_exact given left _ _ _ refusal s
+decode_exact class given left held held' faults faults' _ _ (reads _ whole (decoded frames commands r)) (done _ t) =
+    output_exact given left _ _ _ 0 (omega arith) whole (λ none. none) (λ none. none) (λ out. out frames commands r)
+decode_exact class given left held held' faults faults' _ _ (reads _ whole (decoded frames commands r)) (stopped _ t cause) =
+    output_exact given left _ _ _ 3 (omega arith) whole (λ none. none) (λ none. none) (λ out. out frames commands r)
+decode_exact class given left held held' faults faults' _ _ (reads _ whole (bad_transfer fault out f)) (refused _ t) = record {
+  not_words = λ e. omega (arith, e);
+  of_script = never given 8 5 _ (λ e. omega (arith, e)) (λ none. none);
+  of_setup = never given 8 6 _ (λ e. omega (arith, e)) (λ none. none);
+  of_transfer = record { only = λ e. out; always = λ few due c. inl refl };
+  of_size = fits given left 8 whole (λ e. omega (arith, e));
 }
-
-abbrev OfTransfer : List (List ℕ) → List ℕ → Type 0
-OfTransfer words given = (class : Class) × (command_of words ≡ Some (Decode class)) × IsOutside class given
-
-decode_exact : (words : List (List ℕ)) (given : List ℕ) (status : ℕ) (class : Class) → command_of words ≡ Some (Decode class) → (status ≡ 4 → ⊥) → (status ≡ 5 → ⊥) → (status ≡ 6 → ⊥)
-    → ComesExactly given status 8 (OfTransfer words given) → TooLargeExactly given status → RefusesExactly words given status
-decode_exact words given status class w four five six transfer size = record {
-  of_words = good_words words (Decode class) status w four;
-  of_script = never given status 5 _ five (λ due. two_ways (command_of words) class due.0 w);
-  of_setup = never given status 6 _ six (λ due. two_ways (command_of words) class due.0 w);
-  of_transfer = transfer;
-  of_size = size;
-}
-
-text_exact : (words : List (List ℕ)) (given : List ℕ) (left : Option (List ℕ)) (status : ℕ) (class : Class) (frames : List (List ℕ)) (commands : ℕ) → status ≤ 3 → command_of words ≡ Some (Decode class)
-    → IsWhole given left → Reads class given frames commands → RefusesExactly words given status
-text_exact words given left status class frames commands small w whole r =
-    decode_exact words given status class w (λ e. omega (arith, small, e)) (λ e. omega (arith, small, e)) (λ e. omega (arith, small, e))
-    (never given status 8 (OfTransfer words given) (λ e. omega (arith, small, e)) (λ due. is_inside (command_of words) class due.0 given frames commands w due.1 r due.2))
-    (fits given left status whole (λ e. omega (arith, small, e)))
 
 pub exact : RefusalsAreExact
 exact words given left held held' faults faults' status (ends answer (answers_serial _ w input) t) =
-    serial_exact words given status w (run_exact IsDrained given left held held' faults faults' answer status input t)
-exact words given left held held' faults faults' _ (ends _ (answers_decode class _ w (stops refusal s)) (refused _ t)) =
-    let other : (mine : ℕ) → 2 < mine → (mine ≡ 7 → ⊥) → refusal_status refusal ≡ mine → ⊥ = λ mine more not. (unread given refusal mine ⊥ s more not).only in
-    decode_exact words given (refusal_status refusal) class w (other 4 (omega arith) (λ e. omega (arith, e))) (other 5 (omega arith) (λ e. omega (arith, e)))
-    (other 6 (omega arith) (λ e. omega (arith, e))) (unread given refusal 8 (OfTransfer words given) s (omega arith) (λ e. omega (arith, e))) (unread_size given refusal s)
-exact words given left held held' faults faults' _ (ends _ (answers_decode class _ w (reads _ whole (decoded frames commands r))) (done _ t)) = text_exact words given left 0 class frames commands (omega arith) w whole r
-exact words given left held held' faults faults' _ (ends _ (answers_decode class _ w (reads _ whole (decoded frames commands r))) (stopped _ t cause)) = text_exact words given left 3 class frames commands (omega arith) w whole r
-exact words given left held held' faults faults' _ (ends _ (answers_decode class _ w (reads _ whole (bad_transfer fault out f))) (refused _ t)) =
-    decode_exact words given 8 class w (λ e. omega (arith, e)) (λ e. omega (arith, e)) (λ e. omega (arith, e))
-    (record { only = λ e. (class, w, out); always = λ few due c. inl refl }) (fits given left 8 whole (λ e. omega (arith, e)))
+    let e = run_exact IsDrained given left held held' faults faults' answer status input t in
+    record {
+      of_words = good_words words Serial status w e.not_words;
+      of_script = comes_as given status 5 _ _ (λ due. (w, due)) (λ due. due.1) e.of_script;
+      of_setup = comes_as given status 6 _ _ (λ due. (w, due)) (λ due. due.1) e.of_setup;
+      of_transfer = comes_as given status 8 _ _ (λ none. absurd none) (λ due. two_ways (command_of words) due.0 w due.1) e.of_transfer;
+      of_size = e.of_size;
+    }
+exact words given left held held' faults faults' status (ends answer (answers_decode class _ w input) t) =
+    let e = decode_exact class given left held held' faults faults' answer status input t in
+    record {
+      of_words = good_words words (Decode class) status w e.not_words;
+      of_script = comes_as given status 5 _ _ (λ none. absurd none) (λ due. two_ways (command_of words) class due.0 w) e.of_script;
+      of_setup = comes_as given status 6 _ _ (λ none. absurd none) (λ due. two_ways (command_of words) class due.0 w) e.of_setup;
+      of_transfer = comes_as given status 8 _ _ (λ out. (class, w, out)) (λ due. subst (λ k. IsOutside k given) (one_class (command_of words) due.0 class due.1 w) due.2) e.of_transfer;
+      of_size = e.of_size;
+    }
 exact words given left held held' faults faults' _ (ends _ (bad_words w none) (refused _ t)) = record {
   of_words = (λ e. w, λ f. refl);
   of_script = never given 4 5 _ (λ e. omega (arith, e)) (λ due. is_none (command_of words) Serial due.0 w);
   of_setup = never given 4 6 _ (λ e. omega (arith, e)) (λ due. is_none (command_of words) Serial due.0 w);
-  of_transfer = never given 4 8 (OfTransfer words given) (λ e. omega (arith, e)) (λ due. is_none (command_of words) (Decode due.0) due.1 w);
+  of_transfer = never given 4 8 _ (λ e. omega (arith, e)) (λ due. is_none (command_of words) (Decode due.0) due.1 w);
   of_size = record { only = λ e. absurd (omega (arith, e)); always = λ big. let nothing = ap length none in absurd (omega (arith, nothing, big)) };
 }

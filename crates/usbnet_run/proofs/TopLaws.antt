@@ -4,11 +4,11 @@ use Rattle.usbnet_run.specs.Command.{RefusesExactly, ends}
 use Rattle.usbnet_run.specs.Kept.{IsKept}
 use Rattle.usbnet_run.specs.Loads.{Loads, loaded, wants_memory}
 use Rattle.usbnet_run.specs.Refusals.{Answer, Prints, done, refused, stopped}
-use Rattle.usbnet_run.specs.Top.{MainRefusesExactly, MainRefusalsAreExact, RunIsComplete, answers_load, answers_plain, answers_run, main_ends}
+use Rattle.usbnet_run.specs.Top.{MainRefusalsAreExact, RunIsComplete, answers_load, answers_plain, answers_run, main_ends}
 use Rattle.usbnet_run.specs.Words.{job_of}
 use Rattle.usbnet_run.specs.declared.words.Job.{Job}
 use Rattle.usbnet_run.specs.declared.words.Job.TheVariants.{Run, Load, Plain}
-use Rattle.usbnet_run.proofs.Completeness.{RunsExactly, exact, run_complete, run_exact}
+use Rattle.usbnet_run.proofs.Completeness.{exact, run_complete, run_exact}
 
 run_or_plain : (job : Job) → job ≡ Run → job ≡ Plain → ⊥
 run_or_plain job a b = cc
@@ -37,16 +37,6 @@ no_four status (inl e) f = omega (arith, e, f)
 no_four status (inr (inl e)) f = omega (arith, e, f)
 no_four status (inr (inr e)) f = omega (arith, e, f)
 
-kept_exact : (words : List (List ℕ)) (given : List ℕ) (status : ℕ) → job_of words ≡ Run → RunsExactly given status → MainRefusesExactly words given status
-kept_exact words given status w e = record {
-  of_plain = λ p. absurd (run_or_plain (job_of words) w p);
-  of_words = (λ f. absurd (e.not_words f), λ p. absurd (run_or_plain (job_of words) w p.0));
-  of_script = λ r. e.of_script;
-  of_setup = λ r. e.of_setup;
-  of_size = λ r. e.of_size;
-  of_load = λ count l. absurd (run_or_load (job_of words) count w l);
-}
-
 pub main_exact : MainRefusalsAreExact
 main_exact words given left held held' faults faults' status (main_ends answer (answers_plain _ w answers) t) =
     let plain : RefusesExactly words given status = exact words given left held held' faults faults' status (ends answer answers t) in
@@ -59,7 +49,15 @@ main_exact words given left held held' faults faults' status (main_ends answer (
       of_load = λ count l. absurd (load_or_plain (job_of words) count l w);
     }
 main_exact words given left held held' faults faults' status (main_ends answer (answers_run _ w input) t) =
-    kept_exact words given status w (run_exact IsKept given left held held' faults faults' answer status input t)
+    let e = run_exact IsKept given left held held' faults faults' answer status input t in
+    record {
+      of_plain = λ p. absurd (run_or_plain (job_of words) w p);
+      of_words = (λ f. absurd (e.not_words f), λ p. absurd (run_or_plain (job_of words) w p.0));
+      of_script = λ r. e.of_script;
+      of_setup = λ r. e.of_setup;
+      of_size = λ r. e.of_size;
+      of_load = λ count l. absurd (run_or_load (job_of words) count w l);
+    }
 main_exact words given left held held' faults faults' status (main_ends answer (answers_load count _ w none load) t) =
     let ways = load_status count held held' faults faults' answer status load t in
     record {
