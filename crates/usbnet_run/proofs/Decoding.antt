@@ -1,16 +1,14 @@
 -- The text of a decoded transfer, put in pieces.
-use Rattle.std.proofs.Common.{◌≡◌, ℕ, ◌+◌, List, [], ◌∷◌, ◌++◌, length, codes, decimal, Option, Some, None, refl, sym, ap, subst, ◌∙◌, arith, append_assoc, append-nil}
+use Rattle.std.proofs.Common.{◌≡◌, ℕ, ◌+◌, List, [], ◌∷◌, ◌++◌, length, Option, Some, None, refl, sym, ap, ◌∙◌, arith, append_assoc, append-nil}
 use Rattle.un_frame.specs.declared.fault.Fault.{Fault}
 use Rattle.un_frame.specs.declared.params.Class.{Class}
-use Rattle.un_frame.specs.declared.params.Class.TheVariants.{Ecm, Eem, Ncm16, Ncm32}
 use Rattle.un_frame.specs.Bytes.{AreBytes}
-use Rattle.un_frame.specs.Laws.{FaultIsExact}
 use Rattle.un_frame.specs.Wire.{fault_of}
-use Rattle.un_frame.proofs.WireLemmas.{ecm_exact, eem_is_exact, ncm16_exact, ncm32_exact, fault_is_exact}
+use Rattle.un_frame.proofs.WireLemmas.{fault_is_exact}
 use Rattle.un_text.specs.declared.page.Page.{Page}
 use Rattle.un_text.specs.Puts.{Puts}
 use Rattle.un_text.proofs.Putting.{puts_none, puts_then, puts_as}
-use Rattle.usbnet_run.specs.Decode.{IsOutside, commands_text, decoded_text, frame_head, frame_line, frame_lines, head_text}
+use Rattle.usbnet_run.specs.Decode.{IsOutside, frame_line, frame_lines}
 
 -- THE FIRST FAULT
 

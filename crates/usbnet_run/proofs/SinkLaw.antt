@@ -1,5 +1,5 @@
 -- What a sink holds at each status, by the ways to end.
-use Rattle.std.proofs.Common.{ℕ, ◌≡◌, List, Option, refl, arith}
+use Rattle.std.proofs.Common.{ℕ, List, Option, refl, arith}
 use Rattle.usbnet_run.specs.Command.{Answers, ends}
 use Rattle.usbnet_run.specs.Refusals.{Answer, Prints, done, refused, stopped}
 use Rattle.usbnet_run.specs.Sinks.{HoldsAt, MainSinkHolds, SinkHolds}

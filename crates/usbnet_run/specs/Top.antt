@@ -1,5 +1,5 @@
 -- What the whole program answers, with its workers: its statuses, what each says, and where each is due.
-use Rattle.std.specs.Prelude.{◌≡◌, ◌↔◌, ℕ, ◌<◌, ◌≤◌, List, [], ◌++◌, length, ◌⊎◌, Option, Some, None, Ok}
+use Rattle.std.specs.Prelude.{◌≡◌, ◌↔◌, ℕ, ◌≤◌, List, [], ◌++◌, length, ◌⊎◌, Option, Some, None, Ok}
 use Rattle.std.specs.Io.KnownBytes.{Consumes}
 use Rattle.un_frame.specs.Params.{Agree}
 use Rattle.un_journal.specs.Script.{Script}
