@@ -8,5 +8,5 @@ returns-in_err-link-clause-does g c =
     let p = err_from_is_err_and c.from_residual.result c.from_residual.ensures.1 in
     rw (p.1, p.2) (Loads.wants_memory, refl, refl)
 
-pub returns-in_ok-link-clause-does : goal.returns-in_ok-link-clause-does
-returns-in_ok-link-clause-does g c = (load_line c.args.count, Loads.loaded c.in_ok-link.link.log.history c.in_ok-link.ensures.load, c.print_load.ensures.writes)
+pub returns-clause-does : goal.returns-clause-does
+returns-clause-does g c = (load_line c.args.count, Loads.loaded c.in_ok-link.link.log.history c.in_ok-link.ensures.load, c.print_load.ensures.writes)

@@ -12,5 +12,5 @@ returns-in-Err-BadLine-clause-refused c =
 pub returns-in-Ok-clause-script : goal.returns-in-Ok-clause-script
 returns-in-Ok-clause-script c = script_given _ _ _ c.deref.ensures.value c.in-Ok.ensures
 
-pub returns-in-Err-NoMemory-clause-refused : goal.returns-in-Err-NoMemory-clause-refused
-returns-in-Err-NoMemory-clause-refused c = Refuses.wants_memory NoMemory refl
+pub returns-clause-refused : goal.returns-clause-refused
+returns-clause-refused c = Refuses.wants_memory NoMemory refl

@@ -11,8 +11,8 @@ returns-in_err-link-clause-does g c =
     let p = err_from_is_err_and c.from_residual.result c.from_residual.ensures.1 in
     rw (p.1, p.2) (PrintsKept.wants_turn, refl, refl)
 
-pub returns-in_ok-link-clause-does : goal.returns-in_ok-link-clause-does
-returns-in_ok-link-clause-does g c =
+pub returns-clause-does : goal.returns-clause-does
+returns-clause-does g c =
     let same = ap (λ (l : Log). l.history) c.journal.ensures.log in (
       output c.args.prepared.link.script c.args.prepared.agreed c.in_ok-link.link.log.history,
       PrintsKept.prints_kept c.in_ok-link.link.log.history c.in_ok-link.ensures.kept (subst AreEntries same c.print.ensures.entries),

@@ -11,8 +11,8 @@ returns-in_err-prepared-clause-does g c =
     let p = err_from_is_err_and c.from_residual.result c.from_residual.ensures.1 in
     rw (p.1, p.2) (Runs.refuses _ c.in_err-prepared.ensures.refused, refl, refl)
 
-pub returns-in_ok-prepared-clause-does : goal.returns-in_ok-prepared-clause-does
-returns-in_ok-prepared-clause-does g c =
+pub returns-clause-does : goal.returns-clause-does
+returns-clause-does g c =
     let prepared = c.in_ok-prepared.prepared in
     let script = prepared.link.script in
     let history = drain script [] in (
