@@ -1,16 +1,14 @@
 -- The text of a decoded transfer, put in pieces.
-use Rattle.std.proofs.Common.{◌≡◌, ℕ, ◌+◌, List, [], ◌∷◌, ◌++◌, length, codes, decimal, Option, Some, None, refl, sym, ap, subst, ◌∙◌, arith, append_assoc, append-nil}
+use Rattle.std.proofs.Common.{◌≡◌, ℕ, ◌+◌, List, [], ◌∷◌, ◌++◌, length, Option, Some, None, refl, sym, ap, ◌∙◌, arith, append_assoc, append-nil}
 use Rattle.un_frame.specs.declared.fault.Fault.{Fault}
 use Rattle.un_frame.specs.declared.params.Class.{Class}
-use Rattle.un_frame.specs.declared.params.Class.TheVariants.{Ecm, Eem, Ncm16, Ncm32}
 use Rattle.un_frame.specs.Bytes.{AreBytes}
-use Rattle.un_frame.specs.Laws.{FaultIsExact}
 use Rattle.un_frame.specs.Wire.{fault_of}
-use Rattle.un_frame.proofs.WireLemmas.{ecm_exact, eem_is_exact, ncm16_exact, ncm32_exact, fault_is_exact}
+use Rattle.un_frame.proofs.WireLemmas.{fault_is_exact}
 use Rattle.un_text.specs.declared.page.Page.{Page}
 use Rattle.un_text.specs.Puts.{Puts}
 use Rattle.un_text.proofs.Putting.{puts_none, puts_then, puts_as}
-use Rattle.usbnet_run.specs.Decode.{IsOutside, bad_transfer_line, commands_text, decoded_text, frame_head, frame_line, frame_lines, head_text, kind_word}
+use Rattle.usbnet_run.specs.Decode.{IsOutside, frame_line, frame_lines}
 
 -- THE FIRST FAULT
 
@@ -19,13 +17,6 @@ some_none found fault some none = cc
 
 pub outside : (class : Class) (bytes : List ℕ) (fault : Fault) → AreBytes bytes → fault_of class bytes ≡ Some fault → IsOutside class bytes
 outside class bytes fault small is frames commands r = some_none (fault_of class bytes) fault is ((fault_is_exact class bytes small).1 (r.places, commands, r.found))
-
--- its line, word by word
-pub fault_line : (a b c d e word : List ℕ) (fault : Fault) → a ≡ [] → b ≡ a ++ codes "bad transfer" → word ≡ kind_word fault.kind → c ≡ b ++ 32 ∷ word
-    → d ≡ c ++ 32 ∷ decimal fault.at → e ≡ d ++ codes "\n" → e ≡ bad_transfer_line fault
-fault_line a b c d e word fault ha hb hw hc hd he =
-    he ∙ ap (λ t. t ++ codes "\n") (hd ∙ ap (λ t. t ++ 32 ∷ decimal fault.at) (hc ∙ ap (λ t. t ++ 32 ∷ word) (hb ∙ ap (λ t. t ++ codes "bad transfer") ha)
-    ∙ ap (λ w. codes "bad transfer" ++ 32 ∷ w) hw))
 
 -- THE LINES OF THE FRAMES
 

@@ -1,15 +1,14 @@
--- How a load ends, and its line.
-use Rattle.std.specs.Prelude.{◌≡◌, ℕ, ◌+◌, List, ◌∷◌, ◌++◌, codes, decimal, Option}
-use Rattle.std.specs.Io.KnownBytes.{Appends}
+-- What a load answers, and its line.
+use Rattle.std.specs.Prelude.{◌≡◌, ℕ, ◌+◌, List, ◌∷◌, ◌++◌, codes, decimal, Ok, Err}
 use Rattle.un_frame.specs.declared.params.Lane.TheVariants.{Outward, Inward}
-use Rattle.un_io.specs.Io.{Stopped}
 use Rattle.un_journal.specs.History.{History, past}
 use Rattle.un_journal.specs.Fits.{IsDone}
 use Rattle.un_report.specs.declared.tally.Tally.{Tally}
 use Rattle.un_report.specs.Counts.{counts}
 use Rattle.un_script.specs.Load.{load_script}
 use Rattle.usbnet_run.specs.Kept.{IsKept}
-use Rattle.usbnet_run.specs.Refusals.{Tells}
+use Rattle.usbnet_run.specs.Refusals.{Answer}
+use Rattle.usbnet_run.specs.declared.refusal.Refusal.TheVariants.{NoMemory}
 
 -- a load's packets have 512 bytes
 abbrev pub PACKET : ℕ
@@ -36,8 +35,7 @@ pub record IsLoad (count : ℕ) (history : History) : Type 0 where
   pub is_done : IsDone (load_script count) history
   pub is_whole : IsWhole count history
 
--- How a load of so many frames ends, by the status: at 0 the sink grew by the line of its history; at 3 by a front of it, and not all; at 1 memory ran out.
-pub data Loads (count : ℕ) (held held' : Option (List ℕ)) (faults faults' : ℕ) : ℕ → Type 0 where
-  loaded : (history : History) → IsLoad count history → Appends held held' (load_line count) → Loads count held held' faults faults' 0
-  load_stopped : (history : History) → IsLoad count history → Stopped held held' (load_line count) → Loads count held held' faults faults' 3
-  wants_memory : Tells held held' faults faults' (codes "no memory\n") → Loads count held held' faults faults' 1
+-- the answers of a load of so many frames: the line of its history, or want of memory
+pub data Loads (count : ℕ) : Answer → Type 0 where
+  loaded : (history : History) → IsLoad count history → Loads count (Ok (load_line count))
+  wants_memory : Loads count (Err NoMemory)

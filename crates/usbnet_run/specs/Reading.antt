@@ -1,7 +1,9 @@
 -- The reading of a command's input, and how it ends where it isn't read whole.
-use Rattle.std.specs.Prelude.{◌≡◌, ℕ, ◌+◌, ◌≤◌, List, length, codes, Option}
+use Rattle.std.specs.Prelude.{◌≡◌, ℕ, ◌+◌, ◌≤◌, List, length, Option, Err}
 use Rattle.std.specs.Io.KnownBytes.{IsAtEnd}
-use Rattle.usbnet_run.specs.Refusals.{Tells}
+use Rattle.usbnet_run.specs.Refusals.{Answer}
+use Rattle.usbnet_run.specs.declared.refusal.Refusal.{Refusal}
+use Rattle.usbnet_run.specs.declared.refusal.Refusal.TheVariants.{NoMemory, ReadFault, TooLarge}
 
 -- the most bytes of input
 abbrev pub MOST_INPUT : ℕ
@@ -11,8 +13,13 @@ MOST_INPUT = 16777216
 abbrev pub IsWhole : List ℕ → Option (List ℕ) → Type 0
 IsWhole given left = IsAtEnd left × (length given ≤ MOST_INPUT)
 
--- memory ran out; a read failed; there was more than the most: of each the line was written
-pub data StopsReading (given : List ℕ) (held held' : Option (List ℕ)) (faults faults' : ℕ) : ℕ → Type 0 where
-  no_memory : Tells held held' faults faults' (codes "no memory\n") → StopsReading given held held' faults faults' 1
-  read_fault : length given ≤ MOST_INPUT → Tells held held' faults faults' (codes "read fault\n") → StopsReading given held held' faults faults' 2
-  too_large : length given ≡ MOST_INPUT + 1 → Tells held held' faults faults' (codes "too large\n") → StopsReading given held held' faults faults' 7
+-- memory ran out; a read failed; there was more than the most
+pub data StopsReading (given : List ℕ) : Refusal → Type 0 where
+  no_memory : StopsReading given NoMemory
+  read_fault : length given ≤ MOST_INPUT → StopsReading given ReadFault
+  too_large : length given ≡ MOST_INPUT + 1 → StopsReading given TooLarge
+
+-- the answer of a command over its input: one of these, or an answer to the whole of it
+pub data OfInput (Answers : List ℕ → Answer → Type 0) (given : List ℕ) (left : Option (List ℕ)) : Answer → Type 0 where
+  stops : (refusal : Refusal) → StopsReading given refusal → OfInput Answers given left (Err refusal)
+  reads : (answer : Answer) → IsWhole given left → Answers given answer → OfInput Answers given left answer

@@ -3,7 +3,6 @@ use Rattle.std.specs.Prelude.{ℕ, List, [], ◌∷◌, codes, Option, Some, Non
 use Rattle.std.specs.Str.{bytes_eq}
 use Rattle.un_frame.specs.Spelling.{class_named}
 use Rattle.un_frame.specs.declared.params.Class.{Class}
-use Rattle.un_frame.specs.declared.params.Class.TheVariants.{Ecm, Eem, Ncm16, Ncm32}
 use Rattle.usbnet_run.specs.declared.words.Command.{Command}
 use Rattle.usbnet_run.specs.declared.words.Command.TheVariants.{Serial, Decode}
 use Rattle.usbnet_run.specs.declared.words.Job.{Job}

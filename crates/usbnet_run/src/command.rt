@@ -1,25 +1,39 @@
 //! The command over a source and a sink.
 
-ghost use Rattle.std.specs.Prelude.{◌≡◌, ◌≤◌, ℕ, List, map, length, IfOk, codes};
+ghost use Rattle.std.specs.Prelude.{◌≡◌, ℕ, List, IsErrOf, map};
 ghost use Rattle.std.specs.String.{string_bytes};
 ghost use Rattle.std.specs.Io.KnownBytes.{Consumes};
 ghost use Rattle.un_io.specs.Io.{Rose};
-ghost use Rattle.usbnet_run.specs.Command.{DecodeIsComplete, Ends, IsComplete, RefusalsAreExact};
-ghost use Rattle.usbnet_run.specs.Refusals.{Tells};
+ghost use Rattle.usbnet_run.specs.Command.{Answers, DecodeIsComplete, Ends, IsComplete, RefusalsAreExact};
+ghost use Rattle.usbnet_run.specs.Refusals.{Does};
 
 use crate::decode::decode;
 use crate::reading::read_input;
+use crate::refusal::{Ending, Refusal, finish};
 use crate::serial::serial;
 use crate::words::{Command, command_of};
 use std::alloc::Global;
-use un_io::{Sink, Source, write_whole};
+use un_io::{Sink, Source};
 
-/// Writes a refusal's line, or a front of it: the status stays the refusal's own where the write fails.
-pub(crate) fn tell<O: Sink>(out: &mut O, line: &[u8])
-    ensures told { Tells (O.held out.old) (O.held out.new) (O.faults out.old) (O.faults out.new) line.now }
-    ensures never_falls { O.faults out.old ≤ O.faults out.new }
+/// Does what `plain_command` does, but for a refusal's line: a refusal leaves the sink as it is.
+pub(crate) fn do_command<I: Source, O: Sink>(
+    alloc: Global,
+    words: &[String],
+    input: &mut I,
+    out: &mut O,
+) -> Ending
+    ensures does { (given : List ℕ) × Consumes (I.left input.old) (I.left input.new) given
+        × Does (Answers (map string_bytes words.now) given (I.left input.new)) (O.held out.old) (O.held out.new) (O.faults out.old) (O.faults out.new) result }
+    ensures read_fault { IsErrOf result Refusal.ReadFault → Rose (I.faults input.old) (I.faults input.new) }
 {
-    let _ = write_whole(out, line);
+    let Some(command) = command_of(words) else {
+        return Err(Refusal::BadWords);
+    };
+    let text = read_input(alloc, input)?;
+    match command {
+        Command::Serial => serial(alloc, out, text),
+        Command::Decode(class) => decode(out, class, &text),
+    }
 }
 
 /// Does the command `serial`: reads a script from the source, runs its link by the serial drain, and adds the trace text of its history
@@ -45,18 +59,7 @@ pub fn plain_command<I: Source, O: Sink>(
     ensures read_fault { result ≡ 2 → Rose (I.faults input.old) (I.faults input.new) }
     ensures write_fault { result ≡ 3 → Rose (O.faults out.old) (O.faults out.new) }
 {
-    let Some(command) = command_of(words) else {
-        tell(out, b"bad words\n");
-        return 4;
-    };
-    let text = match read_input(alloc, input, out) {
-        Ok(text) => text,
-        Err(status) => return status,
-    };
-    match command {
-        Command::Serial => serial(alloc, out, text),
-        Command::Decode(class) => decode(out, class, &text),
-    }
+    finish(do_command(alloc, words, input, out), out)
 }
 
 /// Where the words are a command, its grammar reads the input, which has at most 16,777,216 bytes, the parameters of a script agree, no

@@ -1,11 +1,8 @@
 //! The command decode: the frames of one transfer, as a text.
 
-ghost use Rattle.std.specs.Prelude.{◌≡◌, ◌+◌, ◌≤◌, ◌++◌, [], length, OnOk, OnErr};
-ghost use Rattle.std.specs.Io.KnownBytes.{Appends};
-ghost use Rattle.un_io.specs.Io.{Rose, Stopped};
+ghost use Rattle.std.specs.Prelude.{◌≡◌, ◌+◌, ◌≤◌, ◌++◌, [], length};
 ghost use Rattle.usbnet_run.specs.Decode.{
   Decodes,
-  bad_transfer_line,
   commands_text,
   decoded_text,
   frame_head,
@@ -13,51 +10,17 @@ ghost use Rattle.usbnet_run.specs.Decode.{
   frame_lines,
   head_text,
 };
-ghost use Rattle.usbnet_run.specs.Refusals.{Tells};
+ghost use Rattle.usbnet_run.specs.Refusals.{Does, Writes};
 ghost use Rattle.un_text.specs.Puts.{Puts};
 
-use crate::command::tell;
-use un_frame::{Class, Fault, Kind};
+use crate::refusal::{Ending, Refusal};
+use un_frame::Class;
 use un_io::{Sink, WriteFault};
 use un_text::{Buffer, Page, class_word, number, word};
 use un_wire::{Parts, read};
 
 /// The bytes that the words of a line have at most, but for a frame's digits.
 const WORDS: usize = 64;
-
-/// The word of a fault's kind.
-fn kind_word(kind: Kind) -> &'static [u8]
-    ensures word { result.now ≡ Rattle.usbnet_run.specs.Decode.kind_word kind }
-    ensures short { length result.now ≤ 17 }
-{
-    match kind {
-        Kind::Truncated => b"truncated",
-        Kind::BadSentinel => b"bad-sentinel",
-        Kind::CrcPacket => b"crc-packet",
-        Kind::ShortFrame => b"short-frame",
-        Kind::BadSignature => b"bad-signature",
-        Kind::BadHeaderLength => b"bad-header-length",
-        Kind::BadBlockLength => b"bad-block-length",
-        Kind::BadNdpIndex => b"bad-ndp-index",
-        Kind::BadNdpLength => b"bad-ndp-length",
-        Kind::CrcTable => b"crc-table",
-        Kind::NdpLoop => b"ndp-loop",
-        Kind::BadEntry => b"bad-entry",
-    }
-}
-
-/// Writes that a transfer is refused, for its first fault.
-fn tell_bad_transfer<O: Sink>(out: &mut O, fault: Fault)
-    ensures told { Tells (O.held out.old) (O.held out.new) (O.faults out.old) (O.faults out.new) (bad_transfer_line fault) }
-    ensures never_falls { O.faults out.old ≤ O.faults out.new }
-{
-    let mut refusal = Buffer::make();
-    refusal.push(b"bad transfer");
-    word(&mut refusal, kind_word(fault.kind));
-    number(&mut refusal, fault.at);
-    refusal.push(b"\n");
-    tell(out, refusal.as_slice());
-}
 
 /// The lines before the frames, in an empty buffer.
 fn push_head(buffer: &mut Buffer, class: Class, frames: u64)
@@ -118,10 +81,8 @@ fn put_frames<O: Sink>(out: &mut O, page: &mut Page, parts: &mut Parts, count: u
 /// Adds the text of a transfer that was read to a sink. At a write fault the sink has grown by a front of that text, and not by all of it.
 /// Takes no memory, and copies no frame.
 fn write_decoded<O: Sink>(out: &mut O, class: Class, parts: &mut Parts) -> Result<(), WriteFault>
-    ensures written { OnOk result (Appends (O.held out.old) (O.held out.new) (decoded_text class parts.old.frames parts.old.commands)) }
-    ensures stopped { OnErr result (Stopped (O.held out.old) (O.held out.new) (decoded_text class parts.old.frames parts.old.commands)) }
+    ensures writes { Writes (O.held out.old) (O.held out.new) (O.faults out.old) (O.faults out.new) (decoded_text class parts.old.frames parts.old.commands) result }
     ensures never_falls { O.faults out.old ≤ O.faults out.new }
-    ensures cause { OnErr result (Rose (O.faults out.old) (O.faults out.new)) }
 {
     let commands = parts.commands();
     let count = parts.count();
@@ -133,22 +94,14 @@ fn write_decoded<O: Sink>(out: &mut O, class: Class, parts: &mut Parts) -> Resul
     page.finish(out)
 }
 
-/// Decodes one transfer of a class. The status is 0 where the grammar of the class reads the bytes and the text of its frames was
-/// written; 3 where a write of that text failed, and then the sink has grown by a front of it and not all; 8 exactly where the grammar
-/// has no reading of the bytes, and then the line of the first fault was written, or a front of it. Takes no memory.
-pub fn decode<O: Sink>(out: &mut O, class: Class, bytes: &[u8]) -> u8
-    ensures ends { Decodes class bytes.now (O.held out.old) (O.held out.new) (O.faults out.old) (O.faults out.new) result }
+/// Decodes one transfer of a class, and adds the text of its frames to a sink. The refusal, which leaves the sink as it is, is
+/// `BadTransfer` with the first fault, exactly where the grammar has no reading of the bytes. Takes no memory.
+pub fn decode<O: Sink>(out: &mut O, class: Class, bytes: &[u8]) -> Ending
+    ensures does { Does (Decodes class bytes.now) (O.held out.old) (O.held out.new) (O.faults out.old) (O.faults out.new) result }
     ensures never_falls { O.faults out.old ≤ O.faults out.new }
-    ensures cause { result ≡ 3 → Rose (O.faults out.old) (O.faults out.new) }
 {
     match read(class, bytes) {
-        Ok(mut parts) => match write_decoded(out, class, &mut parts) {
-            Ok(()) => 0,
-            Err(_) => 3,
-        },
-        Err(fault) => {
-            tell_bad_transfer(out, fault);
-            8
-        }
+        Ok(mut parts) => Ok(write_decoded(out, class, &mut parts)),
+        Err(fault) => Err(Refusal::BadTransfer(fault)),
     }
 }

@@ -1,14 +1,13 @@
 //! The command load: generated frames, with all workers.
 
-ghost use Rattle.std.specs.Prelude.{◌≡◌, ◌≤◌, ◌+◌, [], IfOk, OnOk, OnErr};
-ghost use Rattle.std.specs.Io.KnownBytes.{Appends};
-ghost use Rattle.un_io.specs.Io.{Rose, Stopped};
+ghost use Rattle.std.specs.Prelude.{◌≡◌, ◌≤◌, ◌+◌, [], IfOk};
 ghost use Rattle.un_journal.specs.Fits.{Legal};
 ghost use Rattle.un_link.specs.Link.{flights_of};
 ghost use Rattle.un_script.specs.Load.{load_script};
 ghost use Rattle.usbnet_run.specs.Loads.{IsLoad, IsWhole, IsWholeLoad, Loads, load_line};
+ghost use Rattle.usbnet_run.specs.Refusals.{Does, Writes};
 
-use crate::command::tell;
+use crate::refusal::Ending;
 use crate::work::work;
 use std::alloc::{AllocError, Global};
 use std::sync::Wait;
@@ -88,10 +87,8 @@ fn print_sums<O: Sink>(
 ) -> Result<(), WriteFault>
     requires legal { Legal script.now journal.now.history }
     requires whole { IsWhole count journal.now.history }
-    ensures written { OnOk result (Appends (O.held out.old) (O.held out.new) (load_line count)) }
-    ensures stopped { OnErr result (Stopped (O.held out.old) (O.held out.new) (load_line count)) }
+    ensures writes { Writes (O.held out.old) (O.held out.new) (O.faults out.old) (O.faults out.new) (load_line count) result }
     ensures never_falls { O.faults out.old ≤ O.faults out.new }
-    ensures cause { OnErr result (Rose (O.faults out.old) (O.faults out.new)) }
 {
     let found = go_over(script, journal, PACKET);
     let sums = sums_of(found.outward, found.inward, count);
@@ -106,42 +103,31 @@ fn print_sums<O: Sink>(
     write_whole(out, line.as_slice())
 }
 
-/// Adds the line of a load's link to a sink. The status is 0 where it was added, and 3 where a write failed.
-fn print_load<O: Sink>(out: &mut O, count: u32, link: &Link) -> u8
+/// Adds the line of a load's link to a sink.
+fn print_load<O: Sink>(out: &mut O, count: u32, link: &Link) -> Result<(), WriteFault>
     requires load { IsLoad count link.now.log.history }
-    ensures ends { Loads count (O.held out.old) (O.held out.new) (O.faults out.old) (O.faults out.new) result }
+    ensures writes { Writes (O.held out.old) (O.held out.new) (O.faults out.old) (O.faults out.new) (load_line count) result }
     ensures never_falls { O.faults out.old ≤ O.faults out.new }
-    ensures cause { result ≡ 3 → Rose (O.faults out.old) (O.faults out.new) }
 {
-    match print_sums(out, count, link.script(), link.journal()) {
-        Ok(()) => 0,
-        Err(_) => 3,
-    }
+    print_sums(out, count, link.script(), link.journal())
 }
 
 /// Runs the generated script of so many frames by the eleven workers and a last drain, and prints the sums of what was accepted,
 /// delivered and lost, counted over the lines of its history. The clauses say that the line is `taken N given N lost 0`, which the
-/// number alone fixes; that a link was run for it is how this is built, and tests show it. The status is 0 where the line was written;
-/// 1 for want of memory, and then the line `no memory` was written, or a front of it; 3 where a write failed. No call after the first
-/// byte of output has an answer for want of memory.
+/// number alone fixes; that a link was run for it is how this is built, and tests show it. The refusal is want of memory, and leaves
+/// the sink as it is. No call after the first byte of output has an answer for want of memory.
 pub(crate) fn load<R: Threads + Wait + Sync, O: Sink, G: Gate + Sync>(
     rt: &R,
     alloc: Global,
     out: &mut O,
     count: u32,
     gate: &G,
-) -> u8
+) -> Ending
     requires least { 1 ≤ count }
     requires most { count ≤ 65536 }
-    ensures ends { Loads count (O.held out.old) (O.held out.new) (O.faults out.old) (O.faults out.new) result }
+    ensures does { Does (Loads count) (O.held out.old) (O.held out.new) (O.faults out.old) (O.faults out.new) result }
     ensures never_falls { O.faults out.old ≤ O.faults out.new }
-    ensures cause { result ≡ 3 → Rose (O.faults out.old) (O.faults out.new) }
 {
-    match loaded(rt, alloc, count, gate) {
-        Ok(link) => print_load(out, count, &link),
-        Err(_) => {
-            tell(out, b"no memory\n");
-            1
-        }
-    }
+    let link = loaded(rt, alloc, count, gate)?;
+    Ok(print_load(out, count, &link))
 }

@@ -18,6 +18,7 @@ mod load;
 mod main_tests;
 mod prepare;
 mod reading;
+mod refusal;
 mod run;
 mod serial;
 mod sinks;
@@ -27,6 +28,7 @@ mod top;
 mod words;
 mod work;
 
+use crate::refusal::{NO_WORDS, Refusal};
 use crate::top::usbnet_main;
 use std::env;
 use std::io::{self, ErrorKind};
@@ -34,22 +36,18 @@ use std::process::ExitCode;
 use un_io::{StdSink, StdSource};
 use un_share::OpenGate;
 
-/// The status where the words couldn't be had from the system.
-const NO_WORDS: u8 = 10;
-
-/// The status for want of memory.
-const NO_MEMORY: u8 = 1;
-
 fn main(rt: HostRuntime) -> ExitCode {
     let args = match env::args(&rt) {
         Ok(args) => args,
-        Err(error) if error.kind() == ErrorKind::OutOfMemory => return ExitCode::from(NO_MEMORY),
+        Err(error) if error.kind() == ErrorKind::OutOfMemory => {
+            return ExitCode::from(Refusal::NoMemory.status());
+        }
         Err(_) => return ExitCode::from(NO_WORDS),
     };
     let mut words = Vec::new(rt.alloc());
     for word in args.skip(1) {
         if words.push(word).is_err() {
-            return ExitCode::from(NO_MEMORY);
+            return ExitCode::from(Refusal::NoMemory.status());
         }
     }
     let mut input = StdSource::make(rt.reader());

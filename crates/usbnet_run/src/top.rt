@@ -1,14 +1,16 @@
 //! The whole program over a source, a sink and a gate.
 
-ghost use Rattle.std.specs.Prelude.{◌≡◌, ◌≤◌, ℕ, List, map};
+ghost use Rattle.std.specs.Prelude.{◌≡◌, ℕ, List, IsErrOf, map};
 ghost use Rattle.std.specs.String.{string_bytes};
 ghost use Rattle.std.specs.Io.KnownBytes.{Consumes};
 ghost use Rattle.un_io.specs.Io.{Rose};
-ghost use Rattle.usbnet_run.specs.Top.{HistoryIsOne, MainEnds, MainRefusalsAreExact, RunIsComplete};
+ghost use Rattle.usbnet_run.specs.Refusals.{Does};
+ghost use Rattle.usbnet_run.specs.Top.{HistoryIsOne, MainAnswers, MainEnds, MainRefusalsAreExact, RunIsComplete};
 
-use crate::command::plain_command;
+use crate::command::do_command;
 use crate::load::load;
 use crate::reading::read_input;
+use crate::refusal::{Ending, Refusal, finish};
 use crate::run::run;
 use crate::words::{Job, job_of};
 use std::alloc::Global;
@@ -16,6 +18,29 @@ use std::sync::Wait;
 use std::thread::Threads;
 use un_io::{Sink, Source};
 use un_share::Gate;
+
+/// Does what `usbnet_main` does, but for a refusal's line: a refusal leaves the sink as it is.
+fn do_job<R: Threads + Wait + Sync, I: Source, O: Sink, G: Gate + Sync>(
+    rt: &R,
+    alloc: Global,
+    words: &[String],
+    input: &mut I,
+    out: &mut O,
+    gate: &G,
+) -> Ending
+    ensures does { (given : List ℕ) × Consumes (I.left input.old) (I.left input.new) given
+        × Does (MainAnswers (map string_bytes words.now) given (I.left input.new)) (O.held out.old) (O.held out.new) (O.faults out.old) (O.faults out.new) result }
+    ensures read_fault { IsErrOf result Refusal.ReadFault → Rose (I.faults input.old) (I.faults input.new) }
+{
+    match job_of(words) {
+        Job::Run => {
+            let text = read_input(alloc, input)?;
+            run(rt, alloc, out, text, gate)
+        }
+        Job::Load(count) => load(rt, alloc, out, count, gate),
+        Job::Plain => do_command(alloc, words, input, out),
+    }
+}
 
 /// Does the command `run`: reads a script from the source, lets the eleven workers run its link under one turn and drains what they
 /// leave, and adds the trace text of the link's history and the report to the sink. Does the command `load` with a number of frames
@@ -48,17 +73,7 @@ pub fn usbnet_main<R: Threads + Wait + Sync, I: Source, O: Sink, G: Gate + Sync>
     ensures read_fault { result ≡ 2 → Rose (I.faults input.old) (I.faults input.new) }
     ensures write_fault { result ≡ 3 → Rose (O.faults out.old) (O.faults out.new) }
 {
-    match job_of(words) {
-        Job::Run => {
-            let text = match read_input(alloc, input, out) {
-                Ok(text) => text,
-                Err(status) => return status,
-            };
-            run(rt, alloc, out, text, gate)
-        }
-        Job::Load(count) => load(rt, alloc, out, count, gate),
-        Job::Plain => plain_command(alloc, words, input, out),
-    }
+    finish(do_job(rt, alloc, words, input, out, gate), out)
 }
 
 /// Where the words ask for a run, the input is a script of at most 16,777,216 bytes whose parameters agree, no read and no write fails,

@@ -1,12 +1,14 @@
-use Rattle.un_io.proofs.Known.{Appends-then, Stopped-more, Stopped-then}
-use Rattle.usbnet_run.specs.Runs.{Prints}
+use Rattle.std.proofs.lemmas.Result.{err_from_is_err_and}
+use Rattle.un_io.proofs.Known.{Stopped-more}
+use Rattle.usbnet_run.proofs.Endings.{writes_then}
 use Rattle.usbnet_run.proofs.serial.print.Goals as goal
 
-pub returns-clause-prints : goal.returns-clause-prints
-returns-clause-prints g c = Prints.all_of_it (Appends-then _ _ _ _ _ c.in-Ok.ensures.written c.in-Ok-write.ensures.written)
+pub returns-in_err-write_trace-clause-writes : goal.returns-in_err-write_trace-clause-writes
+returns-in_err-write_trace-clause-writes g c =
+    let p = err_from_is_err_and c.from_residual.result c.from_residual.ensures.1 in
+    rw p.1 (Stopped-more _ _ _ _ c.in_err-write_trace.ensures.stopped, c.in_err-write_trace.ensures.cause)
 
-pub returns-in_default-clause-prints : goal.returns-in_default-clause-prints
-returns-in_default-clause-prints g c = Prints.front_of_it (Stopped-more _ _ _ _ c.in_default.ensures.stopped)
-
-pub returns-in_default-write-clause-prints : goal.returns-in_default-write-clause-prints
-returns-in_default-write-clause-prints g c = Prints.front_of_it (Stopped-then _ _ _ _ _ c.in-Ok.ensures.written c.in_default-write.ensures.stopped)
+pub returns-clause-writes : goal.returns-clause-writes
+returns-clause-writes g c =
+    let w = c.write.ensures in
+    writes_then _ _ _ _ _ _ _ _ c.write.result c.in_ok-write_trace.ensures.written c.write_trace.ensures.never_falls w.written w.stopped w.cause

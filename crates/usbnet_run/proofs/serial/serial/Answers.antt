@@ -1,16 +1,23 @@
 use Rattle.std.proofs.Common.{[], refl}
+use Rattle.std.proofs.lemmas.Result.{err_from_is_err_and}
 use Rattle.un_journal.specs.Drain.{drain}
 use Rattle.usbnet_run.specs.Command.{IsDrained}
-use Rattle.usbnet_run.specs.Runs.{Runs}
-use Rattle.usbnet_run.proofs.Running.{drained_is_done, prints_from, run_of, runs_of}
+use Rattle.usbnet_run.specs.Runs.{Runs, output}
+use Rattle.usbnet_run.proofs.Running.{drained_is_done, run_of}
 use Rattle.usbnet_run.proofs.serial.serial.Goals as goal
 
-pub returns-in-Ok-clause-ends : goal.returns-in-Ok-clause-ends
-returns-in-Ok-clause-ends g c =
-    let script = c.in-Ok.prepared.link.script in
-    runs_of IsDrained _ script c.in-Ok.prepared.agreed (drain script []) _ _ _ _ c.drain_and_print.result
-    (run_of IsDrained _ c.in-Ok.prepared.link c.in-Ok.prepared.agreed (drain script []) c.in-Ok.ensures.prepared refl (drained_is_done script (drain script []) refl) c.drain_and_print.ensures.entries)
-    (prints_from _ _ _ _ _ _ c.drain_and_print.result c.in-Ok.ensures.silent.0 c.drain_and_print.ensures.prints)
+pub returns-in_err-prepared-clause-does : goal.returns-in_err-prepared-clause-does
+returns-in_err-prepared-clause-does g c =
+    let p = err_from_is_err_and c.from_residual.result c.from_residual.ensures.1 in
+    rw (p.1, p.2) (Runs.refuses _ c.in_err-prepared.ensures.refused, refl, refl)
 
-pub returns-in-Err-clause-ends : goal.returns-in-Err-clause-ends
-returns-in-Err-clause-ends g c = Runs.refused c.in-Err.status c.in-Err.ensures.refused
+pub returns-clause-does : goal.returns-clause-does
+returns-clause-does g c =
+    let prepared = c.in_ok-prepared.prepared in
+    let script = prepared.link.script in
+    let history = drain script [] in (
+      output script prepared.agreed history,
+      Runs.printed script prepared.agreed history
+          (run_of IsDrained _ prepared.link prepared.agreed history c.in_ok-prepared.ensures.prepared refl (drained_is_done script history refl) c.drain_and_print.ensures.entries),
+      c.drain_and_print.ensures.writes,
+    )
