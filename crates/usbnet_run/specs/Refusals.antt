@@ -6,7 +6,7 @@ use Rattle.un_frame.specs.declared.fault.Kind.TheVariants.{Truncated, BadSentine
 use Rattle.un_io.specs.Io.{Rose, Stopped}
 use Rattle.un_io.specs.declared.whole.WriteFault.{WriteFault}
 use Rattle.un_script.specs.declared.why.Why.{Why}
-use Rattle.un_script.specs.declared.why.Why.TheVariants.{Word, Order, Number, Range, Hex, Count, Control, Fault}
+use Rattle.un_script.specs.Reasons.{why_word}
 use Rattle.un_setup.specs.declared.agreement.SetupFault.{SetupFault}
 use Rattle.un_setup.specs.declared.agreement.SetupFault.TheVariants.{BadDivisor, BadAlignment, NoFit, NoMemory as NoRoom}
 use Rattle.usbnet_run.specs.declared.refusal.Refusal.{Refusal}
@@ -34,16 +34,6 @@ ending_status (Ok (Err fault)) = 3
 ending_status (Err refusal) = refusal_status refusal
 
 -- THE LINES
-
-abbrev pub why_word : Why → List ℕ
-why_word Word = codes "word"
-why_word Order = codes "order"
-why_word Number = codes "number"
-why_word Range = codes "range"
-why_word Hex = codes "hex"
-why_word Count = codes "count"
-why_word Control = codes "control"
-why_word Fault = codes "fault"
 
 -- the word of a fault's kind
 abbrev pub kind_word : Kind → List ℕ

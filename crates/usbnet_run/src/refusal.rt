@@ -66,23 +66,6 @@ impl From<SetupFault> for Refusal {
     }
 }
 
-/// The word of a reason: at most 7 bytes.
-fn why_word(why: Why) -> &'static [u8]
-    ensures word { result.now ≡ Refusals.why_word why }
-    ensures short { length result.now ≤ 7 }
-{
-    match why {
-        Why::Word => b"word",
-        Why::Order => b"order",
-        Why::Number => b"number",
-        Why::Range => b"range",
-        Why::Hex => b"hex",
-        Why::Count => b"count",
-        Why::Control => b"control",
-        Why::Fault => b"fault",
-    }
-}
-
 /// The word of a fault's kind: at most 17 bytes.
 fn kind_word(kind: Kind) -> &'static [u8]
     ensures word { result.now ≡ Refusals.kind_word kind }
@@ -158,7 +141,7 @@ impl Refusal {
             Refusal::BadScript { line: place, why } => {
                 line.push(b"bad script");
                 number(line, place);
-                word(line, why_word(why));
+                word(line, why.word().as_bytes());
             }
             Refusal::Setup(fault) => push_setup(line, fault),
             Refusal::TooLarge => line.push(b"too large"),
