@@ -5,7 +5,6 @@ use Rattle.un_frame.specs.declared.fault.Kind.{Kind}
 use Rattle.un_frame.specs.declared.fault.Kind.TheVariants.{Truncated, BadSentinel, CrcPacket, ShortFrame, BadSignature, BadHeaderLength, BadBlockLength, BadNdpIndex, BadNdpLength, CrcTable, NdpLoop, BadEntry}
 use Rattle.un_io.specs.Io.{Rose, Stopped}
 use Rattle.un_io.specs.declared.whole.WriteFault.{WriteFault}
-use Rattle.un_script.specs.declared.why.Why.{Why}
 use Rattle.un_script.specs.Reasons.{why_word}
 use Rattle.un_setup.specs.declared.agreement.SetupFault.{SetupFault}
 use Rattle.un_setup.specs.declared.agreement.SetupFault.TheVariants.{BadDivisor, BadAlignment, NoFit, NoMemory as NoRoom}
