@@ -1,8 +1,9 @@
 -- What a drained link's history is.
-use Rattle.std.proofs.Common.{◌≡◌, ℕ, false, List, [], Ok, refl, sym, subst}
+use Rattle.std.proofs.Common.{◌≡◌, ℕ, false, List, [], Option, Result, Ok, refl, sym, subst}
 use Rattle.un_frame.specs.declared.params.Lane.{Lane}
 use Rattle.un_frame.specs.declared.params.Params.{Params}
 use Rattle.un_frame.specs.Params.{AreInRange, Agree}
+use Rattle.un_io.specs.declared.whole.WriteFault.{WriteFault}
 use Rattle.un_journal.specs.Script.{Script}
 use Rattle.un_journal.specs.History.{History}
 use Rattle.un_journal.specs.Drain.{drain}
@@ -19,7 +20,8 @@ use Rattle.un_setup.specs.declared.agreement.SetupFault.{SetupFault}
 use Rattle.un_setup.specs.declared.agreement.SetupFault.TheVariants.{BadDivisor, BadAlignment, NoFit, NoMemory as NoRoom}
 use Rattle.un_setup.specs.Agreement.{agreed_of, Fails, Refuses as Denies}
 use Rattle.usbnet_run.specs.Prepared.{IsNew, IsPrepared}
-use Rattle.usbnet_run.specs.Runs.{GivesAll, IsRun, Refuses, not_agreed, wants_memory}
+use Rattle.usbnet_run.specs.Refusals.{Does, Writes}
+use Rattle.usbnet_run.specs.Runs.{GivesAll, IsRun, Refuses, Runs, not_agreed, output, wants_memory}
 use Rattle.usbnet_run.specs.declared.refusal.Refusal.TheVariants.{Setup}
 use Rattle.un_link.specs.Link.{Link}
 use Rattle.un_link.proofs.Agreeing.{agreed_is}
@@ -52,6 +54,18 @@ run_of EndsWith text link agreed history p ends done entries = record {
   entries = entries;
   loses_nothing = gives_all link.script history p.in_range done;
 }
+
+-- what was printed of it, through what is lent
+pub printed_so : (EndsWith : Script → History → Type 0) (text : List ℕ) (link : Link) (agreed : Agreed) (history : History) (lent-script : Script) (lent : History) (h i : Option (List ℕ)) (a b : ℕ)
+    (written : Result (Unit {0}) WriteFault) → IsPrepared text link agreed → EndsWith link.script history → IsDone link.script history → lent-script ≡ link.script → lent ≡ history → AreEntries lent
+    → Writes h i a b (output lent-script agreed lent) written → Does (Runs EndsWith text) h i a b (Ok written)
+printed_so EndsWith text link agreed history lent-script lent h i a b written p ends done e f entries t =
+    let P : Script → Type 0 = λ s. Writes h i a b (output s agreed lent) written in
+    let Q : History → Type 0 = λ x. Writes h i a b (output link.script agreed x) written in (
+      output link.script agreed history,
+      Runs.printed link.script agreed history (run_of EndsWith text link agreed history p ends done (subst AreEntries f entries)),
+      subst Q f (subst P e t),
+    )
 
 pub drained_is_done : (script : Script) (history : History) → history ≡ drain script [] → IsDone script history
 drained_is_done script history e = subst (IsDone script) (sym e) (drain_done script [] Legal.begins none_flies)
