@@ -19,11 +19,11 @@ use Rattle.un_setup.specs.declared.agreement.Agreed.{Agreed}
 use Rattle.un_setup.specs.declared.agreement.SetupFault.{SetupFault}
 use Rattle.un_setup.specs.declared.agreement.SetupFault.TheVariants.{BadDivisor, BadAlignment, NoFit, NoMemory as NoRoom}
 use Rattle.un_setup.specs.Agreement.{agreed_of, Fails, Refuses as Denies}
-use Rattle.usbnet_run.specs.Prepared.{IsNew, IsPrepared}
+use Rattle.usbnet_run.specs.Prepared.{IsPrepared}
 use Rattle.usbnet_run.specs.Refusals.{Does, Writes}
 use Rattle.usbnet_run.specs.Runs.{GivesAll, IsRun, Refuses, Runs, not_agreed, output, wants_memory}
 use Rattle.usbnet_run.specs.declared.refusal.Refusal.TheVariants.{Setup}
-use Rattle.un_link.specs.Link.{Link}
+use Rattle.un_link.specs.Link.{Link, flights_of}
 use Rattle.un_link.proofs.Agreeing.{agreed_is}
 
 -- nothing flies before the first line
@@ -37,10 +37,6 @@ gives_all script history ranges done w = record {
   all_given = λ lane. (nothing_lost script history (have_pools script.params ranges) w done lane).all_given;
   all_accepted = λ lane sender. (nothing_lost script history (have_pools script.params ranges) w done lane).all_accepted sender;
 }
-
--- what is agreed on are the parameters
-pub agreed_params : (params : Params) (agreed : Agreed) → agreed_of params ≡ Ok agreed → agreed.params ≡ params
-agreed_params params agreed e = (agreed_is params agreed e).params_are
 
 -- a done history that a command ends with belongs to a prepared link's script
 pub run_of : (EndsWith : Script → History → Type 0) (text : List ℕ) (link : Link) (agreed : Agreed) (history : History) → IsPrepared text link agreed
@@ -72,11 +68,11 @@ drained_is_done script history e = subst (IsDone script) (sym e) (drain_done scr
 
 -- a new link of a text's script, on whose parameters its ends agree
 pub prepared_of : (text : List ℕ) (script : Script) (link : Link) (agreed : Agreed) → script_of text ≡ Ok script → AreInRange script.params → Agree script.params → agreed_of script.params ≡ Ok agreed
-    → agreed.params ≡ script.params → IsNew script link → IsPrepared text link agreed
-prepared_of text script link agreed is range agrees a same new =
+    → link.script ≡ script → link.log.history ≡ [] → flights_of link ≡ [] → IsPrepared text link agreed
+prepared_of text script link agreed is range agrees a same new none =
     let P : Script → Type 0 = λ s. (script_of text ≡ Ok s) × AreInRange s.params × Agree s.params × (agreed_of s.params ≡ Ok agreed) × (agreed.params ≡ s.params) in
-    let p = subst P (sym new.script_is) (is, range, agrees, a, same) in
-    record { script_is = p.0; in_range = p.1; agrees = p.2; agreed_is = p.3; same_params = p.4; fresh = new.fresh; none_out = new.none_out }
+    let p = subst P (sym same) (is, range, agrees, a, (agreed_is script.params agreed a).params_are) in
+    record { script_is = p.0; in_range = p.1; agrees = p.2; agreed_is = p.3; same_params = p.4; fresh = new; none_out = none }
 
 -- a fault that `agree` answers is a refusal of the text
 pub refuses_of : (text : List ℕ) (script : Script) (fault : SetupFault) → script_of text ≡ Ok script → Fails fault (agreed_of script.params) → Denies fault script.params → Refuses text (Setup fault)
