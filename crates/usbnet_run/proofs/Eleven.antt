@@ -1,5 +1,5 @@
 -- What the eleven workers leave, and the line of a load.
-use Rattle.std.proofs.Common.{ℕ, ◌+◌, arith, List, [], ◌∷◌, ◌++◌, ◌≡◌, codes, decimal, Option, Some, Result, Ok, Err, IfOk, refl, sym, ap, subst, ◌∙◌}
+use Rattle.std.proofs.Common.{ℕ, ◌+◌, arith, List, [], ◌∷◌, ◌++◌, ◌≡◌, codes, decimal, Option, Some, Result, Ok, Err, IfOk, sym, ap, subst, ◌∙◌}
 use Rattle.un_journal.specs.Script.{Script}
 use Rattle.un_journal.specs.History.{History}
 use Rattle.un_journal.specs.Drain.{drain}

@@ -10,10 +10,9 @@ use Rattle.un_frame.specs.declared.kinds.FaultKind.{FaultKind}
 use Rattle.un_frame.specs.declared.kinds.Verdict.{Verdict}
 use Rattle.un_frame.specs.declared.kinds.Verdict.TheVariants.{Take}
 use Rattle.un_frame.specs.Verdict.{verdict_of}
-use Rattle.un_journal.specs.declared.lines.Line.{Line}
 use Rattle.un_journal.specs.declared.lines.Line.TheVariants.{Took, Failed, Cut, Dropped}
 use Rattle.un_journal.specs.declared.controls.Due.{Due}
-use Rattle.un_journal.specs.Script.{Script, Frame, frames_of, feeds_of, planned, frame_count}
+use Rattle.un_journal.specs.Script.{Script, Frame, frames_of, planned, frame_count}
 use Rattle.un_journal.specs.History.{History, past, concerns, taken, given, row_from}
 use Rattle.un_journal.specs.Lookup.{feed_head}
 use Rattle.un_journal.specs.Loss.{LosesNothing, is_take, accepted, good_frames}
@@ -24,7 +23,7 @@ use Rattle.un_journal.proofs.NoLoss.{Whole, nothing_lost}
 use Rattle.un_journal.proofs.Ranges.{have_pools}
 use Rattle.un_journal.proofs.Rules.{legal_ruled}
 use Rattle.un_report.specs.Counts.{failed_datagrams, cut_datagrams, dropped_datagrams}
-use Rattle.un_script.specs.Load.{load_script, load_frame, load_feed, load_feeds, load_lane, load_sender, load_body, load_length, is_from, ADDRESSES}
+use Rattle.un_script.specs.Load.{load_script, load_frame, load_feed, load_lane, load_sender, load_body, is_from, ADDRESSES}
 use Rattle.un_script.specs.Table.{defaults}
 use Rattle.un_script.proofs.Loads.{load_more, load_none, count_more}
 use Rattle.un_script.proofs.Ranges.{defaults_in_range}

@@ -1,7 +1,6 @@
 -- What a drained link's history is.
 use Rattle.std.proofs.Common.{◌≡◌, ℕ, false, List, [], Option, Result, Ok, refl, sym, subst}
 use Rattle.un_frame.specs.declared.params.Lane.{Lane}
-use Rattle.un_frame.specs.declared.params.Params.{Params}
 use Rattle.un_frame.specs.Params.{AreInRange, Agree}
 use Rattle.un_io.specs.declared.whole.WriteFault.{WriteFault}
 use Rattle.un_journal.specs.Script.{Script}

@@ -1,5 +1,5 @@
 -- A flight that was taken is out.
-use Rattle.std.proofs.Common.{◌≡◌, ℕ, ◌<◌, List, [], ◌∷◌, refl, arith}
+use Rattle.std.proofs.Common.{◌≡◌, ◌<◌, List, [], ◌∷◌, refl, arith}
 use Rattle.un_journal.specs.declared.machine.Flight.{Flight}
 use Rattle.un_journal.specs.Flights.{Gains, times}
 use Rattle.un_journal.proofs.Flights.{same_flight-refl}

@@ -1,4 +1,4 @@
-use Rattle.std.proofs.Common.{refl, sym}
+use Rattle.std.proofs.Common.{refl}
 use Rattle.std.proofs.lemmas.Result.{err_from_is_err_and}
 use Rattle.usbnet_run.specs.Runs.{Refuses}
 use Rattle.usbnet_run.specs.declared.refusal.Refusal.TheVariants.{NoMemory}
