@@ -1,6 +1,5 @@
 -- What the eleven workers leave, and the line of a load.
-use Rattle.std.proofs.Common.{ℕ, ◌+◌, arith, List, [], ◌∷◌, ◌++◌, ◌≡◌, codes, decimal, Option, Some, Result, Ok, Err, IfOk, refl, sym, ap, subst, ◌∙◌}
-use Rattle.un_io.specs.declared.whole.WriteFault.{WriteFault}
+use Rattle.std.proofs.Common.{ℕ, ◌+◌, arith, List, [], ◌∷◌, ◌++◌, ◌≡◌, codes, decimal, Option, Some, Result, Ok, Err, IfOk, sym, ap, subst, ◌∙◌}
 use Rattle.un_journal.specs.Script.{Script}
 use Rattle.un_journal.specs.History.{History}
 use Rattle.un_journal.specs.Drain.{drain}
@@ -10,15 +9,9 @@ use Rattle.un_link.specs.Link.{Holds, Link, flights_of}
 use Rattle.un_link.proofs.Draining.{none_flies as link_flies}
 use Rattle.un_report.specs.declared.tally.Tally.{Tally}
 use Rattle.un_script.specs.Load.{load_script}
-use Rattle.un_setup.specs.declared.agreement.Agreed.{Agreed}
-use Rattle.usbnet_run.specs.Kept.{IsKept, PrintsKept, prints_kept, wants_turn}
+use Rattle.usbnet_run.specs.Kept.{IsKept}
 use Rattle.usbnet_run.specs.Loads.{IsLoad, IsWholeLoad, load_line}
-use Rattle.usbnet_run.specs.Prepared.{IsPrepared}
-use Rattle.usbnet_run.specs.Refusals.{Answer, Writes}
-use Rattle.usbnet_run.specs.Runs.{Refuses, Runs, output}
-use Rattle.usbnet_run.specs.declared.refusal.Refusal.TheVariants.{NoMemory}
 use Rattle.usbnet_run.proofs.LoadLaw.{load_whole}
-use Rattle.usbnet_run.proofs.Running.{run_of}
 
 -- the counts that a load's line is made of
 pub whole_found : (count : ℕ) (outward inward out-found in-found : Tally) → out-found ≡ outward → in-found ≡ inward → IsWholeLoad count outward inward → IsWholeLoad count out-found in-found
@@ -68,17 +61,3 @@ load_of script count history same k =
 pub load_if : {E : Type 0} (result : Result Link E) (script : Script) (count : ℕ) → script ≡ load_script count → IfOk result (λ done. IsKept script done.log.history) → IfOk result (λ link. IsLoad count link.log.history)
 load_if (Ok done) script count same k = load_of script count done.log.history same k
 load_if (Err e) script count same k = tt
-
--- WHAT IS PRINTED
-
-pub writes_lent : (script lent-script : Script) (agreed : Agreed) (history lent : History) (held held' : Option (List ℕ)) (faults faults' : ℕ) (written : Result (Unit {0}) WriteFault)
-    → lent-script ≡ script → lent ≡ history → Writes held held' faults faults' (output lent-script agreed lent) written → Writes held held' faults faults' (output script agreed history) written
-writes_lent script lent-script agreed history lent held held' faults faults' written a b t =
-    let P : Script → Type 0 = λ s. Writes held held' faults faults' (output s agreed lent) written in
-    let Q : History → Type 0 = λ h. Writes held held' faults faults' (output script agreed h) written in
-    subst Q b (subst P a t)
-
-pub run_kept : (text : List ℕ) (link : Link) (agreed : Agreed) (answer : Answer) → IsPrepared text link agreed → PrintsKept link.script agreed answer → Runs IsKept text answer
-run_kept text link agreed _ p (prints_kept history kept entries) =
-    Runs.printed link.script agreed history (run_of IsKept text link agreed history p kept (kept_is_done link.script history kept) entries)
-run_kept text link agreed _ p wants_turn = Runs.refuses NoMemory (Refuses.wants_memory NoMemory refl)

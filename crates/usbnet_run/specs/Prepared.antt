@@ -1,17 +1,10 @@
 -- A link that was made for a script's text.
 use Rattle.std.specs.Prelude.{◌≡◌, ℕ, List, [], Ok}
 use Rattle.un_frame.specs.Params.{AreInRange, Agree}
-use Rattle.un_journal.specs.Script.{Script}
 use Rattle.un_script.specs.Reading.{script_of}
 use Rattle.un_setup.specs.declared.agreement.Agreed.{Agreed}
 use Rattle.un_setup.specs.Agreement.{agreed_of}
 use Rattle.un_link.specs.Link.{Link, flights_of}
-
--- a link of the script to which nothing has happened
-pub record IsNew (script : Script) (link : Link) : Type 0 where
-  pub script_is : link.script ≡ script
-  pub fresh : link.log.history ≡ []
-  pub none_out : flights_of link ≡ []
 
 -- it has the text's script, on whose parameters its two ends agree, and nothing has happened to it
 pub record IsPrepared (text : List ℕ) (link : Link) (agreed : Agreed) : Type 0 where

@@ -103,15 +103,6 @@ fn print_sums<O: Sink>(
     write_whole(out, line.as_slice())
 }
 
-/// Adds the line of a load's link to a sink.
-fn print_load<O: Sink>(out: &mut O, count: u32, link: &Link) -> Result<(), WriteFault>
-    requires load { IsLoad count link.now.log.history }
-    ensures writes { Writes (O.held out.old) (O.held out.new) (O.faults out.old) (O.faults out.new) (load_line count) result }
-    ensures never_falls { O.faults out.old ≤ O.faults out.new }
-{
-    print_sums(out, count, link.script(), link.journal())
-}
-
 /// Runs the generated script of so many frames by the eleven workers and a last drain, and prints the sums of what was accepted,
 /// delivered and lost, counted over the lines of its history. The clauses say that the line is `taken N given N lost 0`, which the
 /// number alone fixes; that a link was run for it is how this is built, and tests show it. The refusal is want of memory, and leaves
@@ -129,5 +120,5 @@ pub(crate) fn load<R: Threads + Wait + Sync, O: Sink, G: Gate + Sync>(
     ensures never_falls { O.faults out.old ≤ O.faults out.new }
 {
     let link = loaded(rt, alloc, count, gate)?;
-    Ok(print_load(out, count, &link))
+    Ok(print_sums(out, count, link.script(), link.journal()))
 }

@@ -2,12 +2,11 @@
 
 ghost use Rattle.std.specs.Prelude.{◌≡◌, IfErr, IfOk, Ok};
 ghost use Rattle.un_script.specs.Reading.{script_of};
-ghost use Rattle.un_setup.specs.Agreement.{agreed_of};
-ghost use Rattle.usbnet_run.specs.Prepared.{IsNew, IsPrepared};
+ghost use Rattle.usbnet_run.specs.Prepared.{IsPrepared};
 ghost use Rattle.usbnet_run.specs.Runs.{Refuses};
 
 use crate::refusal::Refusal;
-use std::alloc::{AllocError, Global};
+use std::alloc::Global;
 use un_link::Link;
 use un_script::{Script, ScriptError, read};
 use un_setup::{Agreed, agree};
@@ -31,15 +30,6 @@ fn read_script(alloc: Global, text: Vec<u8>) -> Result<Script, Refusal>
     }
 }
 
-/// The link of a script. The error is want of memory.
-fn new_link(alloc: Global, script: Script, agreed: Agreed) -> Result<Prepared, AllocError>
-    requires { agreed_of script.params ≡ Ok agreed }
-    ensures { IfOk result (λ p. IsNew script p.link × (p.agreed ≡ agreed)) }
-{
-    let link = Link::make(alloc, script, &agreed)?;
-    Ok(Prepared { link, agreed })
-}
-
 /// Reads a script, lets the two ends agree on its parameters, and makes the link. The refusal is `BadScript` where the text is no
 /// script, that of the set-up where its parameters don't agree, and want of memory.
 pub fn prepare(alloc: Global, text: Vec<u8>) -> Result<Prepared, Refusal>
@@ -49,5 +39,6 @@ pub fn prepare(alloc: Global, text: Vec<u8>) -> Result<Prepared, Refusal>
     let script = read_script(alloc, text)?;
     script.is_ready();
     let agreed = agree(alloc, script.params())?;
-    Ok(new_link(alloc, script, agreed)?)
+    let link = Link::make(alloc, script, &agreed)?;
+    Ok(Prepared { link, agreed })
 }

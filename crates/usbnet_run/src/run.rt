@@ -1,9 +1,7 @@
 //! The command run: a script's link, with all its workers.
 
-ghost use Rattle.std.specs.Prelude.{◌≡◌, ◌≤◌, []};
-ghost use Rattle.un_frame.specs.Params.{AreInRange};
-ghost use Rattle.un_link.specs.Link.{flights_of};
-ghost use Rattle.usbnet_run.specs.Kept.{IsKept, PrintsKept};
+ghost use Rattle.std.specs.Prelude.{◌≤◌};
+ghost use Rattle.usbnet_run.specs.Kept.{IsKept};
 ghost use Rattle.usbnet_run.specs.Refusals.{Does};
 ghost use Rattle.usbnet_run.specs.Runs.{Runs};
 
@@ -16,25 +14,6 @@ use std::sync::Wait;
 use std::thread::Threads;
 use un_io::Sink;
 use un_share::Gate;
-
-/// Lets the workers run a new link, drains it, and prints its trace and report. The refusal is want of memory, and leaves the sink as
-/// it is.
-fn work_and_print<R: Threads + Wait + Sync, O: Sink, G: Gate + Sync>(
-    rt: &R,
-    alloc: Global,
-    out: &mut O,
-    prepared: Prepared,
-    gate: &G,
-) -> Ending
-    requires none_out { flights_of prepared.link ≡ [] }
-    requires in_range { AreInRange prepared.agreed.params }
-    ensures does { Does (PrintsKept prepared.link.script prepared.agreed) (O.held out.old) (O.held out.new) (O.faults out.old) (O.faults out.new) result }
-    ensures never_falls { O.faults out.old ≤ O.faults out.new }
-{
-    let Prepared { link, agreed } = prepared;
-    let link = work(rt, alloc, link, gate)?;
-    Ok(print(out, link.script(), &agreed, link.journal()))
-}
 
 /// Runs a script's link by its eleven workers and a last drain, and prints the trace and the report of its history. What is printed is
 /// of one history of the script, which is done and which the drain makes of a legal one (`IsKept`); that it is the workers' own is how
@@ -50,6 +29,7 @@ pub(crate) fn run<R: Threads + Wait + Sync, O: Sink, G: Gate + Sync>(
     ensures does { Does (Runs IsKept text.items) (O.held out.old) (O.held out.new) (O.faults out.old) (O.faults out.new) result }
     ensures never_falls { O.faults out.old ≤ O.faults out.new }
 {
-    let prepared = prepare(alloc, text)?;
-    work_and_print(rt, alloc, out, prepared, gate)
+    let Prepared { link, agreed } = prepare(alloc, text)?;
+    let link = work(rt, alloc, link, gate)?;
+    Ok(print(out, link.script(), &agreed, link.journal()))
 }

@@ -1,12 +1,10 @@
 //! The command serial: a script's link, drained without threads.
 
-ghost use Rattle.std.specs.Prelude.{◌≡◌, ◌≤◌, []};
+ghost use Rattle.std.specs.Prelude.{◌≤◌};
 ghost use Rattle.un_frame.specs.Params.{AreInRange};
-ghost use Rattle.un_journal.specs.Drain.{drain};
 ghost use Rattle.un_journal.specs.Fits.{Legal};
 ghost use Rattle.un_journal.specs.Log.{AreEntries};
 ghost use Rattle.usbnet_run.specs.Command.{IsDrained};
-ghost use Rattle.usbnet_run.specs.Prepared.{IsNew};
 ghost use Rattle.usbnet_run.specs.Refusals.{Does, Writes};
 ghost use Rattle.usbnet_run.specs.Runs.{Runs, output};
 
@@ -37,25 +35,13 @@ pub fn print<O: Sink>(
     un_report::write(out, script, agreed, journal)
 }
 
-/// Drains a new link and prints its trace and report.
-fn drain_and_print<O: Sink>(out: &mut O, prepared: Prepared) -> Result<(), WriteFault>
-    requires new { IsNew prepared.link.script prepared.link }
-    requires in_range { AreInRange prepared.agreed.params }
-    ensures writes { Writes (O.held out.old) (O.held out.new) (O.faults out.old) (O.faults out.new) (output prepared.link.script prepared.agreed (drain prepared.link.script [])) result }
-    ensures entries { AreEntries (drain prepared.link.script []) }
-    ensures never_falls { O.faults out.old ≤ O.faults out.new }
-{
-    let Prepared { mut link, agreed } = prepared;
-    link.drain();
-    print(out, link.script(), &agreed, link.journal())
-}
-
 /// Runs a script's link by its serial drain and prints the trace and the report. A refusal is that of `prepare`, and leaves the sink
 /// as it is. No call after the first byte of output has an answer for want of memory.
 pub fn serial<O: Sink>(alloc: Global, out: &mut O, text: Vec<u8>) -> Ending
     ensures does { Does (Runs IsDrained text.items) (O.held out.old) (O.held out.new) (O.faults out.old) (O.faults out.new) result }
     ensures never_falls { O.faults out.old ≤ O.faults out.new }
 {
-    let prepared = prepare(alloc, text)?;
-    Ok(drain_and_print(out, prepared))
+    let Prepared { mut link, agreed } = prepare(alloc, text)?;
+    link.drain();
+    Ok(print(out, link.script(), &agreed, link.journal()))
 }

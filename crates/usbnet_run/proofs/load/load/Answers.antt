@@ -9,4 +9,4 @@ returns-in_err-link-clause-does g c =
     rw (p.1, p.2) (Loads.wants_memory, refl, refl)
 
 pub returns-clause-does : goal.returns-clause-does
-returns-clause-does g c = (load_line c.args.count, Loads.loaded c.in_ok-link.link.log.history c.in_ok-link.ensures.load, c.print_load.ensures.writes)
+returns-clause-does g c = (load_line c.args.count, Loads.loaded c.in_ok-link.link.log.history c.in_ok-link.ensures.load, c.print_sums.ensures.writes)
