@@ -1,15 +1,14 @@
 //! The gadget's builder.
 
-ghost use Rattle.std.specs.Prelude.{◌≡◌, ◌+◌, ◌<◌, ◌≤◌, ◌^◌, ◌==◌, ◌-◌, ◌++◌, ◌∷◌, [], None, IfOk, IsTrue, length, true, false};
+ghost use Rattle.std.specs.Prelude.{◌≡◌, ◌+◌, ◌<◌, ◌≤◌, ◌^◌, ◌-◌, ◌++◌, ◌∷◌, [], None, IsTrue, length, true, false};
 ghost use Rattle.un_frame.specs.Lanes.{packs};
-ghost use Rattle.un_frame.specs.Params.{Agree, AreInRange};
 ghost use Rattle.un_frame.specs.Wire.{capacity_of, frame_fits};
 ghost use Rattle.un_frame.specs.declared.params.Lane.TheVariants.{Inward};
-ghost use Rattle.un_endpoint.specs.EndOutcomes.{CanOffer, DropsBuild, Offers, Ticks, can_tick};
-ghost use Rattle.un_wire.specs.Codings.{coding_of};
-ghost use Rattle.un_agg.specs.Held.{built_in, claim_of, end_of, left_in, nothing_held};
+ghost use Rattle.un_endpoint.specs.EndOutcomes.{DropsBuild, Offers, Ticks};
+ghost use Rattle.un_agg.specs.Held.{claim_of, end_of};
 
 use crate::block::OpenBlock;
+use crate::builder::Builder;
 use std::alloc::{AllocError, Global};
 use std::marker::Model;
 use un_endpoint::{Built, Ticked};
@@ -38,16 +37,14 @@ impl Model for GadWrap {
     ghost invariant = { IsGadget };
 }
 
-impl GadWrap {
-    ghost use Rattle.un_agg.specs.Building.{AddsMade, IsCopied, keeps_frame};
+impl Builder for GadWrap {
+    ghost LANE = { Inward };
 
-    /// A builder that holds nothing. `limit` is the most datagrams of a block, with 0 for no limit, as the codec's parameters have it. An error is want of memory.
-    pub fn make(alloc: Global, codec: Codec, limit: u32) -> Result<GadWrap, AllocError>
-        requires in_range { AreInRange (coding_of codec).params }
-        requires agree { Agree (coding_of codec).params }
-        requires limit { limit ≡ (coding_of codec).params.datagrams }
-        ensures { IfOk result (λ wrap. wrap ≡ nothing_held (coding_of codec).params) }
-    {
+    ghost held = { λ wrap. wrap };
+
+    const LANE: Lane = Lane::Inward;
+
+    fn make(alloc: Global, codec: Codec, limit: u32) -> Result<GadWrap, AllocError> {
         let own = Pool::make(alloc, 1, codec.capacity())?;
         Ok(GadWrap {
             block: OpenBlock::make(codec, limit),
@@ -56,9 +53,21 @@ impl GadWrap {
         })
     }
 
-    /// Takes a frame of at least 14 bytes, which fits an empty transfer, as the datagram `number`, which goes on from what is built; a transfer that is made gets `serial`. `Busy`, and then nothing has
-    /// changed, comes exactly where a transfer is to be made and none of the pool's requests is home. The pool's requests have room for the codec's transfers.
-    pub fn offer(&mut self, pool: &mut Pool, frame: &[u8], number: u64, serial: u64) -> Built
+    fn can_offer(&self, pool: &Pool, length: u32) -> bool {
+        self.keeps(length) || pool.home() > 0
+    }
+
+    fn can_tick(&self, pool: &Pool) -> bool {
+        self.block.is_open() && pool.home() > 0
+    }
+
+    fn census(&self, number: u64) -> (u32, u32) {
+        let built = self.from <= number && number < self.from + self.block.count() as u64;
+        (built as u32, 0)
+    }
+
+    /// `Busy` comes exactly where a transfer is to be made and none of the pool's requests is home. No request of the pool is claimed, so this and the next two calls ask for less than a builder's may, and say more.
+    fn offer(&mut self, pool: &mut Pool, frame: &[u8], number: u64, serial: u64) -> Built
         requires capacity { capacity_of self.old.params ≤ pool.old.capacity }
         requires least { 14 ≤ length frame.now }
         requires fits { IsTrue (frame_fits self.old.params [] (length frame.now)) }
@@ -77,6 +86,42 @@ impl GadWrap {
             None => Built::Busy,
         }
     }
+
+    /// It never waits. `NoRequest` comes exactly where a block is open and none of the pool's requests is home.
+    fn tick(&mut self, pool: &mut Pool, serial: u64) -> Ticked
+        requires capacity { capacity_of self.old.params ≤ pool.old.capacity }
+        ensures ticked { Ticks (end_of Inward self.old pool.old) (end_of Inward self.new pool.new) serial result }
+        ensures claim { self.new.claim ≡ None }
+    {
+        if !self.block.is_open() {
+            return Ticked::Nothing;
+        }
+        match pool.take() {
+            Some(request) => Ticked::Made(self.close(request, serial)),
+            None => Ticked::NoRequest,
+        }
+    }
+
+    /// The pool keeps its requests as they are.
+    fn drop_build(&mut self, pool: &mut Pool) -> Option<(u64, u64)>
+        ensures dropped { DropsBuild (end_of Inward self.old pool.old) (end_of Inward self.new pool.new) result }
+        ensures claim { self.new.claim ≡ None }
+    {
+        let count = self.block.count();
+        match self.block.give_up() {
+            Some(own) => {
+                let span = (self.from, self.from + count as u64);
+                self.own.put(own);
+                self.from = 0;
+                Some(span)
+            }
+            None => None,
+        }
+    }
+}
+
+impl GadWrap {
+    ghost use Rattle.un_agg.specs.Building.{AddsMade, IsCopied, keeps_frame};
 
     /// Whether a frame of this length stays in the open block, or begins one.
     fn keeps(&self, length: u32) -> bool
@@ -152,60 +197,5 @@ impl GadWrap {
         self.from = own.to();
         self.own.put(own);
         request
-    }
-
-    /// Closes what is open as the transfer `serial`; it never waits. `NoRequest`, and then nothing has changed, comes exactly where a block is open and none of the pool's requests is home.
-    pub fn tick(&mut self, pool: &mut Pool, serial: u64) -> Ticked
-        requires capacity { capacity_of self.old.params ≤ pool.old.capacity }
-        ensures ticked { Ticks (end_of Inward self.old pool.old) (end_of Inward self.new pool.new) serial result }
-        ensures claim { self.new.claim ≡ None }
-    {
-        if !self.block.is_open() {
-            return Ticked::Nothing;
-        }
-        match pool.take() {
-            Some(request) => Ticked::Made(self.close(request, serial)),
-            None => Ticked::NoRequest,
-        }
-    }
-
-    /// Drops what is built, and tells its span; the pool keeps its requests as they are. `None` comes exactly where nothing is built.
-    pub fn drop_build(&mut self, pool: &mut Pool) -> Option<(u64, u64)>
-        ensures dropped { DropsBuild (end_of Inward self.old pool.old) (end_of Inward self.new pool.new) result }
-        ensures claim { self.new.claim ≡ None }
-    {
-        let count = self.block.count();
-        match self.block.give_up() {
-            Some(own) => {
-                let span = (self.from, self.from + count as u64);
-                self.own.put(own);
-                self.from = 0;
-                Some(span)
-            }
-            None => None,
-        }
-    }
-
-    /// Whether an offer of a frame of `length` bytes would not answer `Busy`.
-    pub fn can_offer(&self, pool: &Pool, length: u32) -> bool
-        ensures { CanOffer (end_of Inward self.now pool.now) length result }
-    {
-        self.keeps(length) || pool.home() > 0
-    }
-
-    /// Whether a tick would answer `Made`.
-    pub fn can_tick(&self, pool: &Pool) -> bool
-        ensures { result ≡ can_tick (end_of Inward self.now pool.now) }
-    {
-        self.block.is_open() && pool.home() > 0
-    }
-
-    /// How often a datagram's number stands in the open block, and in a remainder, which a gadget's builder never has.
-    pub fn census(&self, number: u64) -> (u32, u32)
-        ensures builder { result.0 ≡ built_in Inward self.now number }
-        ensures remainder { result.1 ≡ left_in Inward self.now number }
-    {
-        let built = self.from <= number && number < self.from + self.block.count() as u64;
-        (built as u32, 0)
     }
 }

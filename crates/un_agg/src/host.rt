@@ -1,16 +1,13 @@
 //! The host's builder.
 
-ghost use Rattle.std.specs.Prelude.{◌≡◌, ◌+◌, ◌<◌, ◌≤◌, ◌^◌, ◌==◌, [], None, Some, IfOk, IsTrue, is_some, length, map, not, true, false};
-ghost use Rattle.un_frame.specs.Lanes.{packs};
-ghost use Rattle.un_frame.specs.Params.{Agree, AreInRange};
+ghost use Rattle.std.specs.Prelude.{◌≡◌, ◌+◌, ◌<◌, ◌≤◌, ◌^◌, [], None, Some, IsTrue, is_some, length, true};
 ghost use Rattle.un_frame.specs.Wire.{capacity_of, frame_fits};
 ghost use Rattle.un_frame.specs.declared.params.Lane.TheVariants.{Outward};
-ghost use Rattle.un_endpoint.specs.EndOutcomes.{CanOffer, DropsBuild, Offers, Ticks, can_tick};
-ghost use Rattle.un_wire.specs.Codings.{coding_of};
-ghost use Rattle.un_agg.specs.Held.{Claim, IsClaimed, built_in, claim_of, end_of, left_in, nothing_held};
+ghost use Rattle.un_agg.specs.Held.{Claim, claim_of};
 
 use crate::block::OpenBlock;
 use crate::buffer::refill;
+use crate::builder::Builder;
 use std::alloc::{AllocError, Global};
 use std::marker::Model;
 use un_endpoint::{Built, Ticked};
@@ -43,16 +40,14 @@ impl Model for HostAgg {
     ghost invariant = { IsHost };
 }
 
-impl HostAgg {
-    ghost use Rattle.un_agg.specs.Building.{Adds, IsClosed, Settles};
+impl Builder for HostAgg {
+    ghost LANE = { Outward };
 
-    /// A builder that holds nothing. `limit` is the most datagrams of a block, with 0 for no limit, as the codec's parameters have it. An error is want of memory.
-    pub fn make(alloc: Global, codec: Codec, limit: u32) -> Result<HostAgg, AllocError>
-        requires in_range { AreInRange (coding_of codec).params }
-        requires agree { Agree (coding_of codec).params }
-        requires limit { limit ≡ (coding_of codec).params.datagrams }
-        ensures { IfOk result (λ agg. agg ≡ nothing_held (coding_of codec).params) }
-    {
+    ghost held = { λ agg. agg };
+
+    const LANE: Lane = Lane::Outward;
+
+    fn make(alloc: Global, codec: Codec, limit: u32) -> Result<HostAgg, AllocError> {
         let remainder = Vec::with_capacity(alloc, codec.capacity() as usize)?;
         Ok(HostAgg {
             block: OpenBlock::make(codec, limit),
@@ -62,18 +57,25 @@ impl HostAgg {
         })
     }
 
-    /// Takes a frame of at least 14 bytes, which fits an empty transfer, as the datagram `number`, which goes on from what is built; a transfer that is made gets `serial`. `Busy`, and then nothing has
-    /// changed, comes exactly where no block is open and none of the pool's requests is home. The pool's requests have room for the codec's transfers, and a claimed one is out of this pool.
-    pub fn offer(&mut self, pool: &mut Pool, frame: &[u8], number: u64, serial: u64) -> Built
-        requires capacity { capacity_of self.old.params ≤ pool.old.capacity }
-        requires claimed { IsClaimed pool.old self.old.claim }
-        requires least { 14 ≤ length frame.now }
-        requires fits { IsTrue (frame_fits self.old.params [] (length frame.now)) }
-        requires below { number + 1 < 2 ^ 64 }
-        requires next { 0 < length self.old.frames → number ≡ self.old.from + length self.old.frames }
-        ensures built { Offers (end_of Outward self.old pool.old) (end_of Outward self.new pool.new) frame.now number serial result }
-        ensures claimed { IsClaimed pool.new self.new.claim }
-    {
+    fn can_offer(&self, pool: &Pool, length: u32) -> bool {
+        self.block.is_open() || pool.home() > 0
+    }
+
+    fn can_tick(&self, pool: &Pool) -> bool {
+        self.block.is_open() || (!self.remainder.is_empty() && pool.home() > 0)
+    }
+
+    fn census(&self, number: u64) -> (u32, u32) {
+        let built = self.from <= number && number < self.from + self.built() as u64;
+        if self.block.is_open() {
+            (built as u32, 0)
+        } else {
+            (0, built as u32)
+        }
+    }
+
+    /// `Busy` comes exactly where no block is open and none of the pool's requests is home.
+    fn offer(&mut self, pool: &mut Pool, frame: &[u8], number: u64, serial: u64) -> Built {
         if self.block.is_open() {
             return self.add(frame, number, serial);
         }
@@ -82,6 +84,43 @@ impl HostAgg {
             None => Built::Busy,
         }
     }
+
+    /// It closes the open block or the remainder. `NoRequest` comes exactly where a remainder needs a home request and none is home.
+    fn tick(&mut self, pool: &mut Pool, serial: u64) -> Ticked {
+        if self.block.is_open() {
+            if self.pending > 0 {
+                self.pending -= 1;
+                return Ticked::Waited;
+            }
+            return Ticked::Made(self.close(serial));
+        }
+        if self.remainder.is_empty() {
+            return Ticked::Nothing;
+        }
+        match pool.take() {
+            Some(request) => Ticked::Made(self.close_remainder(request, serial)),
+            None => Ticked::NoRequest,
+        }
+    }
+
+    fn drop_build(&mut self, pool: &mut Pool) -> Option<(u64, u64)> {
+        let count = self.built();
+        if count == 0 {
+            return None;
+        }
+        let span = (self.from, self.from + count as u64);
+        if let Some(request) = self.block.give_up() {
+            pool.put(request);
+        }
+        self.remainder.clear();
+        self.pending = 0;
+        self.from = 0;
+        Some(span)
+    }
+}
+
+impl HostAgg {
+    ghost use Rattle.un_agg.specs.Building.{Adds, IsClosed, Settles};
 
     /// Takes a frame where a request was taken for it.
     fn add_in(&mut self, request: Request, frame: &[u8], number: u64, serial: u64) -> Built
@@ -151,29 +190,6 @@ impl HostAgg {
         request
     }
 
-    /// Lets an open block wait, or closes it or the remainder as the transfer `serial`. `NoRequest`, and then nothing has changed, comes exactly where a remainder needs a home request and none is home.
-    pub fn tick(&mut self, pool: &mut Pool, serial: u64) -> Ticked
-        requires capacity { capacity_of self.old.params ≤ pool.old.capacity }
-        requires claimed { IsClaimed pool.old self.old.claim }
-        ensures ticked { Ticks (end_of Outward self.old pool.old) (end_of Outward self.new pool.new) serial result }
-        ensures claimed { IsClaimed pool.new self.new.claim }
-    {
-        if self.block.is_open() {
-            if self.pending > 0 {
-                self.pending -= 1;
-                return Ticked::Waited;
-            }
-            return Ticked::Made(self.close(serial));
-        }
-        if self.remainder.is_empty() {
-            return Ticked::Nothing;
-        }
-        match pool.take() {
-            Some(request) => Ticked::Made(self.close_remainder(request, serial)),
-            None => Ticked::NoRequest,
-        }
-    }
-
     /// Makes a transfer of the remainder alone.
     fn close_remainder(&mut self, request: Request, serial: u64) -> Request
         requires none { self.old.claim ≡ None }
@@ -190,26 +206,6 @@ impl HostAgg {
         made
     }
 
-    /// Drops what is built, and tells its span; a claimed request goes home. `None` comes exactly where nothing is built.
-    pub fn drop_build(&mut self, pool: &mut Pool) -> Option<(u64, u64)>
-        requires claimed { IsClaimed pool.old self.old.claim }
-        ensures dropped { DropsBuild (end_of Outward self.old pool.old) (end_of Outward self.new pool.new) result }
-        ensures claim { self.new.claim ≡ None }
-    {
-        let count = self.built();
-        if count == 0 {
-            return None;
-        }
-        let span = (self.from, self.from + count as u64);
-        if let Some(request) = self.block.give_up() {
-            pool.put(request);
-        }
-        self.remainder.clear();
-        self.pending = 0;
-        self.from = 0;
-        Some(span)
-    }
-
     /// How many datagrams it holds.
     fn built(&self) -> u32
         ensures { result ≡ length self.now.frames }
@@ -218,33 +214,6 @@ impl HostAgg {
             self.block.count()
         } else {
             1
-        }
-    }
-
-    /// Whether an offer of a frame of `length` bytes would not answer `Busy`.
-    pub fn can_offer(&self, pool: &Pool, length: u32) -> bool
-        ensures { CanOffer (end_of Outward self.now pool.now) length result }
-    {
-        self.block.is_open() || pool.home() > 0
-    }
-
-    /// Whether a tick would answer `Waited` or `Made`.
-    pub fn can_tick(&self, pool: &Pool) -> bool
-        ensures { result ≡ can_tick (end_of Outward self.now pool.now) }
-    {
-        self.block.is_open() || (!self.remainder.is_empty() && pool.home() > 0)
-    }
-
-    /// How often a datagram's number stands in the open block, and in the remainder.
-    pub fn census(&self, number: u64) -> (u32, u32)
-        ensures builder { result.0 ≡ built_in Outward self.now number }
-        ensures remainder { result.1 ≡ left_in Outward self.now number }
-    {
-        let built = self.from <= number && number < self.from + self.built() as u64;
-        if self.block.is_open() {
-            (built as u32, 0)
-        } else {
-            (0, built as u32)
         }
     }
 }

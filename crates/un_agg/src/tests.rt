@@ -3,7 +3,7 @@
 ghost use Rattle.std.specs.Prelude.{◌≡◌};
 ghost use Rattle.un_frame.specs.Params.{Agree, AreInRange};
 
-use crate::{GadWrap, HostAgg};
+use crate::{Builder, GadWrap, HostAgg};
 use std::test::Fail;
 use un_endpoint::{Built, Ticked};
 use un_frame::{Class, Params};

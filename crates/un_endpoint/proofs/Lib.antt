@@ -1,2 +1,6 @@
 pub mod Kept
 pub mod Counts
+pub mod Copies
+pub mod Lifts
+pub mod Moves
+pub mod Starts

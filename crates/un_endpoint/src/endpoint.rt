@@ -262,7 +262,7 @@ fn has(request: &Request, number: u64) -> bool
 
 /// How many of these transfers, fewer than 2^32, have a datagram's number in their span.
 #[tactic(auto, unfolding(crate::specs::Bus::queued_count), using(crate::proofs::Counts::counted_more, crate::proofs::Counts::counted_less))]
-pub fn spans_with(queue: &HeapCircularBuffer<Request>, number: u64) -> u32
+pub(crate) fn spans_with(queue: &HeapCircularBuffer<Request>, number: u64) -> u32
     requires { length queue.now.items < 2 ^ 32 }
     ensures { result ≡ queued_count number queue.now.items }
 {

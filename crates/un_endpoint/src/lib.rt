@@ -1,4 +1,4 @@
-//! The bus between the two ends of a lane, and what the ends do.
+//! The bus between the two ends of a lane, what the ends do, and the lists of requests that they keep.
 #![tactic(auto)]
 
 mod endpoint;
@@ -6,11 +6,13 @@ mod ends;
 mod flight;
 mod outcome;
 mod record;
+mod requests;
 #[cfg(test)]
 mod tests;
 
-pub use endpoint::{Endpoint, spans_with};
+pub use endpoint::Endpoint;
 pub use ends::{RxEnd, TxEnd};
 pub use flight::{Carried, Flight};
 pub use outcome::{Built, Full, Landed, Taken, Ticked};
 pub use record::FlightRecord;
+pub use requests::{Requests, come_home};

@@ -8,7 +8,7 @@ use Rattle.un_setup.specs.declared.agreement.SetupFault.{SetupFault}
 use Rattle.un_setup.specs.Agreement.{agreed_of, agreement, tested_as, ◌>>=◌}
 use Rattle.un_setup.proofs.Agrees.{tests_pass}
 use Rattle.un_endpoint.specs.Ends.{Transmitter, Receiver}
-use Rattle.un_ends.specs.Sound.{fresh_tx}
+use Rattle.un_endpoint.specs.Sound.{fresh_tx}
 use Rattle.un_receive.specs.Rx.{fresh_rx}
 use Rattle.un_lane.specs.Fresh.{AreFresh}
 

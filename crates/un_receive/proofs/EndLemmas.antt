@@ -11,7 +11,7 @@ use Rattle.un_wire.specs.declared.codec.Codec.{Codec}
 use Rattle.un_req.specs.Request.{Buffer, IsOut, Store, blank, upto}
 use Rattle.un_endpoint.specs.Ends.{IsAwayRx, IsWhole}
 use Rattle.un_endpoint.specs.EndOutcomes.{IsLent}
-use Rattle.un_ends.specs.Rows.{Row, no_requests}
+use Rattle.un_endpoint.specs.Rows.{Row, no_requests}
 use Rattle.un_receive.specs.Rx.{IsSoundRx, fresh_rx}
 use Rattle.un_receive.specs.Reading.{IsLaneRx, IsReading, IsReadingIf, opened_of, receiver_in}
 use Rattle.un_receive.specs.declared.receiver.Current.{Current}

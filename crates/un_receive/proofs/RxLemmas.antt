@@ -1,6 +1,5 @@
 -- What always holds of a receiving end holds after each of its calls.
-use Rattle.std.proofs.Common.{◌≡◌, ℕ, ◌+◌, ◌<◌, ◌≤◌, Bool, true, false, eqb, nat_lt, List, [], ◌∷◌, ◌++◌, length, map, Option, None, Some, refl, sym, ap, ◌∙◌, subst, arith}
-use Rattle.std.proofs.lemmas.Bool.{ltb-true, ltb-false}
+use Rattle.std.proofs.Common.{◌≡◌, ℕ, ◌+◌, ◌<◌, ◌≤◌, eqb, List, [], ◌∷◌, ◌++◌, length, map, Option, None, Some, sym, ap, ◌∙◌, subst, arith}
 use Rattle.std.specs.List.{AllByRecursion}
 use Rattle.un_req.proofs.Homes.{numbers_length, upto_none, upto_once}
 use Rattle.un_frame.specs.Lanes.{rx_size}
@@ -14,7 +13,7 @@ use Rattle.un_frame.specs.declared.params.Params.{Params}
 use Rattle.un_req.specs.Request.{Buffer, IsOut, Store, number_of}
 use Rattle.un_endpoint.specs.Ends.{IsAwayRx, IsWhole, Opened, Receiver, opened_number, rx_copies}
 use Rattle.un_endpoint.specs.EndOutcomes.{LeavesHome}
-use Rattle.un_ends.proofs.Copies.{copies_last, few, none_has, one_cases}
+use Rattle.un_endpoint.proofs.Copies.{below_size, copies_last, few, none_has, one_cases}
 use Rattle.un_receive.specs.Rx.{IsSized, IsSoundRx, fresh_rx}
 
 -- the pool of an end
@@ -150,14 +149,10 @@ module _ (r : Receiver) (opened : Opened) (is : r.current ≡ Some opened) (s : 
       let one = one_here k in
       let all : rx_copies r k ≤ 1 = s.places.once k in
       record {
-        known = below k r.size (nat_lt k r.size) refl (λ big. let none : rx_copies r k ≡ 0 = s.places.known k big in absurd (omega (arith, none, here, one)));
+        known = below_size k r.size (λ big. let none : rx_copies r k ≡ 0 = s.places.known k big in absurd (omega (arith, none, here, one)));
         sized = sized;
         away = omega (arith, here, one, all);
       }
-    where
-      below : (n size : ℕ) (b : Bool) → nat_lt n size ≡ b → (size ≤ n → ⊥) → n < size
-      below n size true e no_more = ltb-true n size e
-      below n size false e no_more = absurd (no_more (ltb-false n size e))
 
 -- a request that was taken to be posted is in none of the places
 pub refilled_away : (old new : Receiver) (request : Buffer) → ((n : ℕ) → rx_copies old n ≤ 1) → LeavesHome old new request → IsAwayRx new request

@@ -1,4 +1,0 @@
-pub mod Copies
-pub mod Lifts
-pub mod Moves
-pub mod Starts

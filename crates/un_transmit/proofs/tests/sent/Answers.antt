@@ -1,0 +1,5 @@
+use Rattle.un_endpoint.proofs.Moves.{made_away}
+use Rattle.un_transmit.proofs.tests.sent.Goals as goal
+
+pub finish-requires : goal.finish-requires
+finish-requires g c = made_away c.args.end.now c.offer.new.self _ _ _ c.in-Made.made c.keeps_each_once.ensures.once c.in-Made.ensures
