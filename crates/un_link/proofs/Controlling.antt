@@ -29,7 +29,8 @@ use Rattle.un_link.specs.Keeps.{Keeps}
 use Rattle.un_link.specs.Link.{Link, Holds, Steps, lane_flights}
 use Rattle.un_link.specs.Orders.{KeepBoth, Obeys}
 use Rattle.un_link.proofs.Flying.{flight_kept}
-use Rattle.un_link.proofs.Holding.{act_room, act_logged, read_same}
+use Rattle.un_link.proofs.Frames.{read_same}
+use Rattle.un_link.proofs.Holding.{act_room, act_logged}
 use Rattle.un_link.proofs.Offers.{pushed}
 use Rattle.un_link.proofs.Unchanged.{always}
 
@@ -150,7 +151,7 @@ module _ (link : Link) (k : Holds link) (due : Due) (forced : Bool) (head : slic
     pub order_free : hinders due.control link.phase (past Outward log1.history) (past Inward log1.history) ≡ 0
     order_free = subst (λ g. hinders due.control link.phase g (past Inward log1.history) ≡ 0) (sym (same_past Outward)) (subst (λ g. hinders due.control link.phase (past Outward link.log.history) g ≡ 0) (sym (same_past Inward)) free)
 
-    module _ (log2 : Log) (out' inward' : Way) (o : Obeys link.script due.control link.done link.phase link.out out' link.inward inward' log1 log2) where
+    module _ (log2 : Log) (out' inward' : Way) (script' : Script) (same : script' ≡ link.script) (o : Obeys link.script due.control link.done link.phase link.out out' link.inward inward' log1 log2) where
       added : Adds link.log log2 (did ∷ lines)
       added = adds_more link.log log1 log2 (did ∷ []) lines did_added (subst (Adds log1 log2) same_lines o.adds)
 
@@ -176,8 +177,8 @@ module _ (link : Link) (k : Holds link) (due : Due) (forced : Bool) (head : slic
           ∙ (ap (λ h. controls_done (reverse h)) history_is
           ∙ (ap controls_done (newest link.log.history did) ∙ ap (λ n. n + 1) (sym k.done_is)))))
 
-      pub order_holds : Holds (record link { log = log2; out = out'; inward = inward'; phase = after_order due.control link.phase; done = link.done + 1 })
-      order_holds = record {
+      pub order_holds : Holds (record link { script = script'; log = log2; out = out'; inward = inward'; phase = after_order due.control link.phase; done = link.done + 1 })
+      order_holds = subst (λ (x : Script). Holds (record link { script = x; log = log2; out = out'; inward = inward'; phase = after_order due.control link.phase; done = link.done + 1 })) (sym same) (record {
         logged = act_logged link.script link.log log2 (Controls forced) k.logged (subst (Adds link.log log2) (sym all_lines) added);
         out_lane = o.keep.out_lane;
         in_lane = o.keep.in_lane;
@@ -187,11 +188,11 @@ module _ (link : Link) (k : Holds link) (due : Due) (forced : Bool) (head : slic
         in_read_is = read_same link.in_read (past Inward link.log.history) (past Inward log2.history) k.in_read_is (λ s. ap (λ g. consumed g s) in_past ∙ order_reads due.control Inward link.done link.phase (past Inward link.log.history) s);
         phase_is = phase_next;
         done_is = done_next;
-      }
+      })
 
-      pub order_steps : Steps link (record link { log = log2; out = out'; inward = inward'; phase = after_order due.control link.phase; done = link.done + 1 }) (control_now link.script link.log.history due forced) Answer.Did
+      pub order_steps : Steps link (record link { script = script'; log = log2; out = out'; inward = inward'; phase = after_order due.control link.phase; done = link.done + 1 }) (control_now link.script link.log.history due forced) Answer.Did
       order_steps = record {
-        script_is = refl;
+        script_is = same;
         history_is = added.history_is ∙ ap (λ ls. link.log.history ++ ls) (sym (ap lines_in now));
         answers = sym (ap answer_in now);
         flights_are =

@@ -14,111 +14,48 @@ use Rattle.un_journal.specs.declared.got.Got.TheVariants.{Part, Cut, Not}
 use Rattle.un_journal.specs.Flights.{times, same_flight, Gains, Loses, Takes}
 use Rattle.un_journal.specs.Script.{Script}
 use Rattle.un_journal.specs.History.{History, past, flying}
-use Rattle.un_journal.specs.Log.{Log}
 use Rattle.un_journal.specs.declared.actions.Action.{Action}
 use Rattle.un_journal.specs.declared.lines.Line.TheVariants.{Flying, Cut as CutLine}
 use Rattle.un_journal.specs.LaneSteps.{Answers, lines_in, bare}
 use Rattle.un_journal.specs.Step.{Work, work, land_from, move_after, outcome, quiet}
-use Rattle.un_journal.specs.Fits.{Works}
-use Rattle.un_journal.proofs.LaneFacts.{lane_of}
-use Rattle.un_lane.specs.Way.{Way}
+use Rattle.un_journal.proofs.Flights.{same_flight-is, same_flight-refl}
 use Rattle.un_lane.specs.Stands.{flight_serial}
 use Rattle.un_lane.specs.Answered.{UnlessDid}
-use Rattle.un_link.specs.declared.cursors.Cursors.{Cursors}
-use Rattle.un_link.specs.Keeps.{AreRead, Keeps}
+use Rattle.un_link.specs.declared.half.Half.{Half}
+use Rattle.un_link.specs.declared.shared.Shared.{Shared}
 use Rattle.un_link.specs.Link.{Link, Holds, Steps, flight_in, lane_flights, flights_of}
 use Rattle.un_link.specs.Ends.{is_finished}
-use Rattle.un_link.specs.Flights.{LaneTrip, flight_of, got_outcome, taken_of, taken_lines, landed_lines, Goes, Came, path_flights, TakesOut, BringsBack, across, flights_in, TakesFrom, LandsIn}
+use Rattle.un_link.specs.Flights.{LaneTrip, flight_of, got_outcome, taken_of, taken_lines, landed_lines, Came, path_flights, TakesOut, BringsBack, across, flights_in, TakesFrom, LandsIn}
 use Rattle.un_link.proofs.Controlling.{same_steps}
-use Rattle.un_link.proofs.Frames.{is_calm, calm_same}
-use Rattle.un_link.proofs.Holding.{act_logged, read_same, is_worked}
-use Rattle.un_journal.proofs.Flights.{same_flight-is, same_flight-refl}
-
--- THE INVARIANT
-
--- the feeds are read as far as they were
-calm_read : (script : Script) (w : Work) (lane : Lane) (old new : Way) (log log' : Log) (c : Cursors) → lane_of w ≡ Some lane → is_calm w ≡ true → log'.history ≡ log.history ++ lines_in (work script log.history w) → AreRead c (past lane log.history)
-    → AreRead c (past lane log'.history)
-calm_read script w lane old new log log' c of calm e r =
-    subst (λ h. AreRead c (past lane h)) (sym e) (read_same c (past lane log.history) (past lane (log.history ++ lines_in (work script log.history w))) r (calm_same script log.history w lane of calm).feeds)
-
-pub out_goes : (link : Link) (w : Work) (out' : Way) (log' : Log) → Holds link → lane_of w ≡ Some Outward → is_calm w ≡ true → Goes link.script link.phase w link.out out' link.log log'
-    → Holds (record link { log = log'; out = out' })
-out_goes link w out' log' k of calm d =
-    let x = is_worked link.script Outward w link.log.history log'.history of d.adds.history_is in
-    let at : out'.lane ≡ Outward = d.lane_is ∙ k.out_lane in
-    record {
-      logged = act_logged link.script link.log log' (Works w) k.logged d.adds;
-      out_lane = at;
-      in_lane = k.in_lane;
-      out_keeps = subst (λ l. Keeps link.script link.phase out' (past l log'.history)) at d.keeps;
-      in_keeps = subst (Keeps link.script link.phase link.inward) (sym (x.other Inward refl)) k.in_keeps;
-      out_read_is = calm_read link.script w Outward link.out out' link.log log' link.out_read of calm d.adds.history_is k.out_read_is;
-      in_read_is = subst (AreRead link.in_read) (sym (x.other Inward refl)) k.in_read_is;
-      phase_is = k.phase_is ∙ sym x.phase_is;
-      done_is = k.done_is ∙ sym x.done_is;
-    }
-
-pub in_goes : (link : Link) (w : Work) (in' : Way) (log' : Log) → Holds link → lane_of w ≡ Some Inward → is_calm w ≡ true → Goes link.script link.phase w link.inward in' link.log log'
-    → Holds (record link { log = log'; inward = in' })
-in_goes link w in' log' k of calm d =
-    let x = is_worked link.script Inward w link.log.history log'.history of d.adds.history_is in
-    let at : in'.lane ≡ Inward = d.lane_is ∙ k.in_lane in
-    record {
-      logged = act_logged link.script link.log log' (Works w) k.logged d.adds;
-      out_lane = k.out_lane;
-      in_lane = at;
-      out_keeps = subst (Keeps link.script link.phase link.out) (sym (x.other Outward refl)) k.out_keeps;
-      in_keeps = subst (λ l. Keeps link.script link.phase in' (past l log'.history)) at d.keeps;
-      out_read_is = subst (AreRead link.out_read) (sym (x.other Outward refl)) k.out_read_is;
-      in_read_is = calm_read link.script w Inward link.inward in' link.log log' link.in_read of calm d.adds.history_is k.in_read_is;
-      phase_is = k.phase_is ∙ sym x.phase_is;
-      done_is = k.done_is ∙ sym x.done_is;
-    }
+use Rattle.un_link.proofs.Holding.{is_worked, shared_of, half_of, with_half}
 
 -- THE LANES' FLIGHTS
 
-pub out_takes : (link : Link) (out' : Way) (log' : Log) (got : Got LaneTrip) → Holds link → TakesOut link.script link.phase link.out out' link.log log' got
-    → TakesFrom Outward link (record link { log = log'; out = out' }) got
-out_takes link out' log' got k t =
-    let d = subst (λ l. Goes link.script link.phase (Work.Take l) link.out out' link.log log') k.out_lane t.goes in
-    let x = is_worked link.script Outward (Work.Take Outward) link.log.history log'.history refl d.adds.history_is in
-    let came = subst (λ l. Came link.out.lane (past link.out.lane link.log.history) (work link.script link.log.history (Work.Take link.out.lane)) got (path_flights link.out link.log) (lane_flights l (past l log'.history) out'.bus.flight)) d.lane_is t.came in
-    record {
-      came = subst (λ l. Came l (past l link.log.history) (work link.script link.log.history (Work.Take l)) got (lane_flights l (past l link.log.history) link.out.bus.flight) (lane_flights l (past l log'.history) out'.bus.flight)) k.out_lane came;
-      others = ap (λ g. lane_flights Inward g link.inward.bus.flight) (x.other Inward refl);
-    }
+-- what came of a half's take, by its lane
+came_in : {T R : Type 0} (lane : Lane) (shared shared' : Shared) (half half' : Half T R) (got : Got LaneTrip) → half.path.lane ≡ lane → TakesOut shared shared' half half' got
+    → Came lane (past lane shared.journal.history) (work shared.script shared.journal.history (Work.Take lane)) got
+    (lane_flights lane (past lane shared.journal.history) half.path.bus.flight) (lane_flights lane (past lane shared'.journal.history) half'.path.bus.flight)
+came_in lane shared shared' half half' got at t =
+    subst (λ l. Came l (past l shared.journal.history) (work shared.script shared.journal.history (Work.Take l)) got (lane_flights l (past l shared.journal.history) half.path.bus.flight) (lane_flights l (past l shared'.journal.history) half'.path.bus.flight)) at
+    (subst (λ l. Came half.path.lane (past half.path.lane shared.journal.history) (work shared.script shared.journal.history (Work.Take half.path.lane)) got (path_flights half.path shared.journal) (lane_flights l (past l shared'.journal.history) half'.path.bus.flight)) t.goes.lane_is t.came)
 
-pub in_takes : (link : Link) (in' : Way) (log' : Log) (got : Got LaneTrip) → Holds link → TakesOut link.script link.phase link.inward in' link.log log' got
-    → TakesFrom Inward link (record link { log = log'; inward = in' }) got
-in_takes link in' log' got k t =
-    let d = subst (λ l. Goes link.script link.phase (Work.Take l) link.inward in' link.log log') k.in_lane t.goes in
-    let x = is_worked link.script Inward (Work.Take Inward) link.log.history log'.history refl d.adds.history_is in
-    let came = subst (λ l. Came link.inward.lane (past link.inward.lane link.log.history) (work link.script link.log.history (Work.Take link.inward.lane)) got (path_flights link.inward link.log) (lane_flights l (past l log'.history) in'.bus.flight)) d.lane_is t.came in
-    record {
-      came = subst (λ l. Came l (past l link.log.history) (work link.script link.log.history (Work.Take l)) got (lane_flights l (past l link.log.history) link.inward.bus.flight) (lane_flights l (past l log'.history) in'.bus.flight)) k.in_lane came;
-      others = ap (λ g. lane_flights Outward g link.out.bus.flight) (x.other Outward refl);
-    }
+pub half_takes : {T R : Type 0} (lane : Lane) (link : Link) (shared' : Shared) (half' : Half T R) (got : Got LaneTrip) → Holds link → TakesOut (shared_of link) shared' (half_of lane link) half' got
+    → TakesFrom lane link (with_half lane link shared' half') got
+half_takes Outward link shared' half' got k t =
+    let x = is_worked link.script Outward (Work.Take link.out.lane) link.log.history shared'.journal.history (ap Some k.out_lane) t.goes.adds.history_is in
+    record { came = came_in Outward (shared_of link) shared' (half_of Outward link) half' got k.out_lane t; others = ap (λ g. lane_flights Inward g link.inward.bus.flight) (x.other Inward refl) }
+half_takes Inward link shared' half' got k t =
+    let x = is_worked link.script Inward (Work.Take link.inward.lane) link.log.history shared'.journal.history (ap Some k.in_lane) t.goes.adds.history_is in
+    record { came = came_in Inward (shared_of link) shared' (half_of Inward link) half' got k.in_lane t; others = ap (λ g. lane_flights Outward g link.out.bus.flight) (x.other Outward refl) }
 
-pub out_lands : (link : Link) (out' : Way) (log' : Log) → Holds link → BringsBack link.script link.phase link.out out' link.log log'
-    → LandsIn Outward link (record link { log = log'; out = out' })
-out_lands link out' log' k t =
-    let d = subst (λ l. Goes link.script link.phase (Work.Land l) link.out out' link.log log') k.out_lane t.goes in
-    let x = is_worked link.script Outward (Work.Land Outward) link.log.history log'.history refl d.adds.history_is in
-    record {
-      none_out = ap (lane_flights Outward (past Outward log'.history)) t.none_out;
-      others = ap (λ g. lane_flights Inward g link.inward.bus.flight) (x.other Inward refl);
-    }
-
-pub in_lands : (link : Link) (in' : Way) (log' : Log) → Holds link → BringsBack link.script link.phase link.inward in' link.log log'
-    → LandsIn Inward link (record link { log = log'; inward = in' })
-in_lands link in' log' k t =
-    let d = subst (λ l. Goes link.script link.phase (Work.Land l) link.inward in' link.log log') k.in_lane t.goes in
-    let x = is_worked link.script Inward (Work.Land Inward) link.log.history log'.history refl d.adds.history_is in
-    record {
-      none_out = ap (lane_flights Inward (past Inward log'.history)) t.none_out;
-      others = ap (λ g. lane_flights Outward g link.out.bus.flight) (x.other Outward refl);
-    }
+pub half_lands : {T R : Type 0} (lane : Lane) (link : Link) (shared' : Shared) (half' : Half T R) → Holds link → BringsBack (shared_of link) shared' (half_of lane link) half'
+    → LandsIn lane link (with_half lane link shared' half')
+half_lands Outward link shared' half' k t =
+    let x = is_worked link.script Outward (Work.Land link.out.lane) link.log.history shared'.journal.history (ap Some k.out_lane) t.goes.adds.history_is in
+    record { none_out = ap (lane_flights Outward (past Outward shared'.journal.history)) t.none_out; others = ap (λ g. lane_flights Inward g link.inward.bus.flight) (x.other Inward refl) }
+half_lands Inward link shared' half' k t =
+    let x = is_worked link.script Inward (Work.Land link.inward.lane) link.log.history shared'.journal.history (ap Some k.in_lane) t.goes.adds.history_is in
+    record { none_out = ap (lane_flights Inward (past Inward shared'.journal.history)) t.none_out; others = ap (λ g. lane_flights Outward g link.out.bus.flight) (x.other Outward refl) }
 
 -- HOW OFTEN A FLIGHT IS OUT
 

@@ -17,6 +17,8 @@ use Rattle.un_journal.specs.Fits.{Works, Fits, takes, refuses, waits_once, close
 use Rattle.un_journal.proofs.Steps.{own_past}
 use Rattle.un_journal.proofs.LaneFacts.{lane_of}
 use Rattle.un_journal.proofs.Complete.{outcome_fits}
+use Rattle.un_link.specs.declared.cursors.Cursors.{Cursors}
+use Rattle.un_link.specs.Keeps.{AreRead}
 
 -- a work of one lane that offers nothing; one that builds nothing either
 abbrev pub is_calm : Work → Bool
@@ -64,6 +66,13 @@ calm_same script h w lane q p = go (work script h w) refl
     go : (o : Outcome) → work script h w ≡ o → IsSame script w lane (past lane h) (past lane (h ++ lines_in o))
     go (Writes lines) e = calm_fits script h lines w lane (outcome_fits script h lines (Works w) e) q p
     go (Answers answer) e = rw append-nil (record { frames = refl; feeds = λ s. refl; covers = λ c. refl })
+
+pub read_same : (c : Cursors) (g g' : History) → AreRead c g → ((s : ℕ) → consumed g' s ≡ consumed g s) → AreRead c g'
+read_same c g g' r same = record { first = r.first ∙ sym (same 0); second = r.second ∙ sym (same 1); third = r.third ∙ sym (same 2); fourth = r.fourth ∙ sym (same 3) }
+
+-- and the feeds are read as far as they were
+pub calm_read : (script : Script) (w : Work) (lane : Lane) (h h' : History) (c : Cursors) → lane_of w ≡ Some lane → is_calm w ≡ true → h' ≡ h ++ lines_in (work script h w) → AreRead c (past lane h) → AreRead c (past lane h')
+calm_read script w lane h h' c of calm e r = subst (λ i. AreRead c (past lane i)) (sym e) (read_same c (past lane h) (past lane (h ++ lines_in (work script h w))) r (calm_same script h w lane of calm).feeds)
 
 -- what is built stays where nothing is offered and nothing is built
 pub plain_frames : (script : Script) (w : Work) (lane : Lane) (g g' : History) → is_plain w ≡ true → IsSame script w lane g g' → built_frames script lane g' ≡ built_frames script lane g

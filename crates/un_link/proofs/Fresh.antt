@@ -8,7 +8,6 @@ use Rattle.un_frame.specs.declared.kinds.Phase.TheVariants.{Up}
 use Rattle.un_frame.specs.Params.{Agree}
 use Rattle.un_endpoint.specs.Ends.{Transmitter, Receiver}
 use Rattle.un_journal.specs.Script.{Script}
-use Rattle.un_journal.specs.Log.{Log}
 use Rattle.un_journal.specs.Bytes.{byte_bound}
 use Rattle.un_journal.specs.Drain.{line_bound}
 use Rattle.un_journal.specs.Fits.{begins}
@@ -17,6 +16,7 @@ use Rattle.un_lane.specs.Stands.{Stands}
 use Rattle.un_lane.specs.Fresh.{AreFresh}
 use Rattle.un_script.specs.Ready.{IsReady}
 use Rattle.un_link.specs.declared.cursors.Cursors.{Cursors}
+use Rattle.un_link.specs.declared.shared.Shared.{Shared}
 use Rattle.un_link.specs.Keeps.{Keeps}
 use Rattle.un_link.specs.Link.{Holds}
 use Rattle.un_link.proofs.Rooms.{few_lines}
@@ -34,14 +34,14 @@ made_keeps script way lane t r n m f e p s = record {
 }
 
 -- a link over two fresh paths, with an empty history and room for all of its lines
-pub made_holds : (script : Script) (out inward : Way) (log : Log) (read read' : Cursors) (a c : Transmitter) (b d : Receiver) (n m i j : ℕ)
+pub made_holds : (script : Script) (out inward : Way) (shared : Shared) (read read' : Cursors) (a c : Transmitter) (b d : Receiver) (n m i j : ℕ)
     → IsReady script → Agree script.params
     → AreFresh Outward a b n m → AreFresh Inward c d i j → a.params ≡ script.params → c.params ≡ script.params
     → Stands out [] → out.lane ≡ Outward → out.tx ≡ a → Stands inward [] → inward.lane ≡ Inward → inward.tx ≡ c
-    → log ≡ record { history = []; spare_lines = line_bound script; spare_bytes = byte_bound script }
+    → shared ≡ record { script = script; journal = record { history = []; spare_lines = line_bound script; spare_bytes = byte_bound script }; phase = Up; done = 0 }
     → read ≡ record { first = 0; second = 0; third = 0; fourth = 0 } → read' ≡ record { first = 0; second = 0; third = 0; fourth = 0 }
-    → Holds (record { script = script; log = log; out = out; inward = inward; out_read = read; in_read = read'; phase = Up; done = 0 })
-made_holds script out inward log read read' a c b d n m i j ready agree fo fi po pi so lo to si li ti e ro ri =
+    → Holds (record { script = shared.script; log = shared.journal; out = out; inward = inward; out_read = read; in_read = read'; phase = shared.phase; done = shared.done })
+made_holds script out inward shared read read' a c b d n m i j ready agree fo fi po pi so lo to si li ti e ro ri =
     rw (e, ro, ri)
     (record {
       logged = record { legal = begins; in_range = ready.in_range; agree = agree; lines_left = omega arith; bytes_left = omega arith; few = few_lines script ready };

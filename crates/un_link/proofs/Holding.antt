@@ -1,11 +1,14 @@
--- A link after one lane's work.
-use Rattle.std.proofs.Common.{◌≡◌, ℕ, ◌+◌, ◌<◌, ◌≤◌, ◌^◌, true, false, ◌++◌, length, reverse, Some, refl, sym, ap, ◌∙◌, subst, arith, length-append}
+-- A link after the work of one of its halves.
+use Rattle.std.proofs.Common.{◌≡◌, ◌+◌, ◌<◌, ◌≤◌, ◌^◌, false, ◌++◌, length, reverse, Some, refl, sym, ap, ◌∙◌, subst, arith, length-append}
+use Rattle.std.proofs.lemmas.Option.{none-some}
 use Rattle.un_frame.specs.declared.params.Lane.{Lane}
 use Rattle.un_frame.specs.declared.params.Lane.TheVariants.{Outward, Inward}
 use Rattle.un_frame.specs.Lanes.{same_lane}
+use Rattle.un_journal.specs.declared.actions.Action.{Action}
 use Rattle.un_journal.specs.declared.actions.Answer.{Answer}
+use Rattle.un_journal.specs.declared.got.Got.{Got}
 use Rattle.un_journal.specs.Script.{Script}
-use Rattle.un_journal.specs.History.{History, past, consumed}
+use Rattle.un_journal.specs.History.{History, past}
 use Rattle.un_journal.specs.Log.{Log}
 use Rattle.un_journal.specs.Bytes.{bytes_in, byte_bound}
 use Rattle.un_journal.specs.Lookup.{phase_of, controls_done}
@@ -18,15 +21,17 @@ use Rattle.un_journal.proofs.Going.{legal_act}
 use Rattle.un_journal.proofs.Onto.{onto}
 use Rattle.un_journal.proofs.LaneFacts.{lane_of, work_own, past_own, past_other, phase_kept, controls_kept}
 use Rattle.un_journal.proofs.LinkFacts.{act_has_room, act_has_byte_room, bytes_append}
-use Rattle.un_lane.specs.Way.{Way, HasRoom, Adds}
-use Rattle.un_lane.specs.Answered.{UnlessDid}
-use Rattle.un_link.specs.declared.cursors.Cursors.{Cursors}
-use Rattle.un_link.specs.declared.task.Task.{Task}
-use Rattle.un_link.specs.Keeps.{AreRead, Keeps, Does, work_of}
+use Rattle.un_lane.specs.Way.{HasRoom, Adds}
+use Rattle.un_lane.specs.Stands.{Stands}
+use Rattle.un_lane.specs.Answered.{UnlessTaken}
+use Rattle.un_link.specs.declared.half.Half.{Half}
+use Rattle.un_link.specs.declared.shared.Shared.{Shared}
+use Rattle.un_link.specs.Keeps.{AreRead, Keeps}
+use Rattle.un_link.specs.Halves.{IsKept, Ready, Goes, Does, acts_on, work_of}
+use Rattle.un_link.specs.Flights.{LaneTrip}
 use Rattle.un_link.specs.Link.{Link, IsLogged, Holds, Steps, lane_flights}
-use Rattle.un_link.proofs.Frames.{is_calm, calm_same}
 use Rattle.un_link.proofs.Flying.{flight_kept}
-use Rattle.un_link.proofs.Unchanged.{out_unchanged, in_unchanged}
+use Rattle.un_link.proofs.Unchanged.{unless, taken}
 
 -- ROOM
 
@@ -61,9 +66,6 @@ act_logged script log log' act w a =
 
 -- THE LANES
 
-pub read_same : (c : Cursors) (g g' : History) → AreRead c g → ((s : ℕ) → consumed g' s ≡ consumed g s) → AreRead c g'
-read_same c g g' r same = record { first = r.first ∙ sym (same 0); second = r.second ∙ sym (same 1); third = r.third ∙ sym (same 2); fourth = r.fourth ∙ sym (same 3) }
-
 -- what a lane's work leaves of the lane's and of the other lane's lines, of the phase and of the controls
 pub record IsWorked (script : Script) (lane : Lane) (h h' lines : History) : Type 0 where
   pub own : past lane h' ≡ onto lines (past lane h)
@@ -81,102 +83,124 @@ is_worked script lane w h h' of e =
       done_is = ap (λ i. controls_done (reverse i)) e ∙ controls_kept h (lines_in (work script h w)) o.still;
     }
 
-pub out_holds : (link : Link) (w : Work) (out' : Way) (log' : Log) (read' : Cursors) (answer : Answer) → Holds link → lane_of w ≡ Some Outward
-    → Does link.script link.phase w link.out out' link.log log' answer → AreRead read' (past Outward log'.history)
-    → Holds (record link { log = log'; out = out'; out_read = read' })
-out_holds link w out' log' read' answer k of d r =
-    let x = is_worked link.script Outward w link.log.history log'.history of d.adds.history_is in
-    let at : out'.lane ≡ Outward = d.lane_is ∙ k.out_lane in
-    record {
-      logged = act_logged link.script link.log log' (Works w) k.logged d.adds;
+-- A LINK'S HALVES
+
+abbrev pub shared_of : Link → Shared
+shared_of link = record { script = link.script; journal = link.log; phase = link.phase; done = link.done }
+
+abbrev pub half_of : {T R : Type 0} → Lane → Link → Half T R
+half_of Outward link = record { path = link.out; read = link.out_read }
+half_of Inward link = record { path = link.inward; read = link.in_read }
+
+-- the link with what is shared and one half as they are afterwards
+abbrev pub with_half : {T R : Type 0} → Lane → Link → Shared → Half T R → Link
+with_half Outward link s half = record { script = s.script; log = s.journal; out = half.path; inward = link.inward; out_read = half.read; in_read = link.in_read; phase = s.phase; done = s.done }
+with_half Inward link s half = record { script = s.script; log = s.journal; out = link.out; inward = half.path; out_read = link.out_read; in_read = half.read; phase = s.phase; done = s.done }
+
+pub half_kept : {T R : Type 0} (lane : Lane) (link : Link) → Holds link → IsKept {T = T} {R = R} (shared_of link) (half_of lane link)
+half_kept Outward link k = record {
+  in_range = k.logged.in_range;
+  keeps = subst (λ l. Keeps link.script link.phase link.out (past l link.log.history)) (sym k.out_lane) k.out_keeps;
+  read_is = subst (λ l. AreRead link.out_read (past l link.log.history)) (sym k.out_lane) k.out_read_is;
+  phase_is = k.phase_is;
+  done_is = k.done_is;
+}
+half_kept Inward link k = record {
+  in_range = k.logged.in_range;
+  keeps = subst (λ l. Keeps link.script link.phase link.inward (past l link.log.history)) (sym k.in_lane) k.in_keeps;
+  read_is = subst (λ l. AreRead link.in_read (past l link.log.history)) (sym k.in_lane) k.in_read_is;
+  phase_is = k.phase_is;
+  done_is = k.done_is;
+}
+
+pub half_ready : {T R : Type 0} (lane : Lane) (link : Link) (w : Work) → Holds link → Ready {T = T} {R = R} w (shared_of link) (half_of lane link)
+half_ready lane link w k = record { kept = half_kept lane link k; room = act_room link.script link.log (Works w) k.logged }
+
+-- the invariant after a half's work
+pub half_holds : {T R : Type 0} (lane : Lane) (link : Link) (w : Work) (shared' : Shared) (half' : Half T R) → Holds link → lane_of w ≡ Some lane → Goes w (shared_of link) shared' (half_of lane link) half'
+    → Holds (with_half lane link shared' half')
+half_holds Outward link w shared' half' k of d =
+    let x = is_worked link.script Outward w link.log.history shared'.journal.history of d.adds.history_is in
+    let at : half'.path.lane ≡ Outward = d.lane_is ∙ k.out_lane in
+    subst (λ (s : Shared). Holds (with_half Outward link s half')) (sym d.shares) (record {
+      logged = act_logged link.script link.log shared'.journal (Works w) k.logged d.adds;
       out_lane = at;
       in_lane = k.in_lane;
-      out_keeps = subst (λ l. Keeps link.script link.phase out' (past l log'.history)) at d.keeps;
+      out_keeps = subst (λ l. Keeps link.script link.phase half'.path (past l shared'.journal.history)) at d.keeps;
       in_keeps = subst (Keeps link.script link.phase link.inward) (sym (x.other Inward refl)) k.in_keeps;
-      out_read_is = r;
+      out_read_is = subst (λ l. AreRead half'.read (past l shared'.journal.history)) k.out_lane d.read_is;
       in_read_is = subst (AreRead link.in_read) (sym (x.other Inward refl)) k.in_read_is;
       phase_is = k.phase_is ∙ sym x.phase_is;
       done_is = k.done_is ∙ sym x.done_is;
-    }
-
-pub in_holds : (link : Link) (w : Work) (in' : Way) (log' : Log) (read' : Cursors) (answer : Answer) → Holds link → lane_of w ≡ Some Inward
-    → Does link.script link.phase w link.inward in' link.log log' answer → AreRead read' (past Inward log'.history)
-    → Holds (record link { log = log'; inward = in'; in_read = read' })
-in_holds link w in' log' read' answer k of d r =
-    let x = is_worked link.script Inward w link.log.history log'.history of d.adds.history_is in
-    let at : in'.lane ≡ Inward = d.lane_is ∙ k.in_lane in
-    record {
-      logged = act_logged link.script link.log log' (Works w) k.logged d.adds;
+    })
+half_holds Inward link w shared' half' k of d =
+    let x = is_worked link.script Inward w link.log.history shared'.journal.history of d.adds.history_is in
+    let at : half'.path.lane ≡ Inward = d.lane_is ∙ k.in_lane in
+    subst (λ (s : Shared). Holds (with_half Inward link s half')) (sym d.shares) (record {
+      logged = act_logged link.script link.log shared'.journal (Works w) k.logged d.adds;
       out_lane = k.out_lane;
       in_lane = at;
       out_keeps = subst (Keeps link.script link.phase link.out) (sym (x.other Outward refl)) k.out_keeps;
-      in_keeps = subst (λ l. Keeps link.script link.phase in' (past l log'.history)) at d.keeps;
+      in_keeps = subst (λ l. Keeps link.script link.phase half'.path (past l shared'.journal.history)) at d.keeps;
       out_read_is = subst (AreRead link.out_read) (sym (x.other Outward refl)) k.out_read_is;
-      in_read_is = r;
+      in_read_is = subst (λ l. AreRead half'.read (past l shared'.journal.history)) k.in_lane d.read_is;
       phase_is = k.phase_is ∙ sym x.phase_is;
       done_is = k.done_is ∙ sym x.done_is;
-    }
+    })
 
 -- WHAT A CALL SAYS
 
-pub out_steps : (link : Link) (w : Work) (out' : Way) (log' : Log) (read' : Cursors) (answer : Answer) → Holds link → lane_of w ≡ Some Outward
-    → Does link.script link.phase w link.out out' link.log log' answer → UnlessDid answer (read' ≡ link.out_read)
-    → Steps link (record link { log = log'; out = out'; out_read = read' }) (work link.script link.log.history w) answer
-out_steps link w out' log' read' answer k of d r =
-    let x = is_worked link.script Outward w link.log.history log'.history of d.adds.history_is in
-    let at : out'.lane ≡ Outward = d.lane_is ∙ k.out_lane in
-    let sound : IsSound (past Outward log'.history) = subst (λ l. IsSound (past l log'.history)) at d.keeps.stands.sound in
+same_half : {T R : Type 0} (lane : Lane) (link : Link) (shared' : Shared) (half' : Half T R) → (half' ≡ half_of lane link) × (shared' ≡ shared_of link) → with_half lane link shared' half' ≡ link
+same_half Outward link shared' half' same = ap (λ h. with_half Outward link shared' h) same.0 ∙ ap (λ (s : Shared). record { script = s.script; log = s.journal; out = link.out; inward = link.inward; out_read = link.out_read; in_read = link.in_read; phase = s.phase; done = s.done }) same.1
+same_half Inward link shared' half' same = ap (λ h. with_half Inward link shared' h) same.0 ∙ ap (λ (s : Shared). record { script = s.script; log = s.journal; out = link.out; inward = link.inward; out_read = link.out_read; in_read = link.in_read; phase = s.phase; done = s.done }) same.1
+
+-- a take that is refused
+pub half_refused : {T R : Type 0} (lane : Lane) (link : Link) (shared' : Shared) (half' : Half T R) (got : Got LaneTrip) → UnlessTaken got ((half' ≡ half_of lane link) × (shared' ≡ shared_of link)) → UnlessTaken got (with_half lane link shared' half' ≡ link)
+half_refused lane link shared' half' got u = taken got _ _ (same_half lane link shared' half') u
+
+-- the lane's flights, where the endpoint's flight stays
+pub own_flights : {T R : Type 0} (lane : Lane) (w : Work) (shared shared' : Shared) (half half' : Half T R) → half.path.lane ≡ lane → lane_of w ≡ Some lane → Stands half.path (past lane shared.journal.history)
+    → Goes w shared shared' half half' → half'.path.bus.flight ≡ half.path.bus.flight
+    → lane_flights lane (past lane shared'.journal.history) half'.path.bus.flight ≡ lane_flights lane (past lane shared.journal.history) half.path.bus.flight
+own_flights lane w shared shared' half half' at of s d f =
+    let x = is_worked shared.script lane w shared.journal.history shared'.journal.history of d.adds.history_is in
+    let sound : IsSound (past lane shared'.journal.history) = subst (λ l. IsSound (past l shared'.journal.history)) (d.lane_is ∙ at) d.keeps.stands.sound in
+    ap (λ g. lane_flights lane g half'.path.bus.flight) x.own
+    ∙ flight_kept lane half.path (lines_in (work shared.script shared.journal.history w)) (past lane shared.journal.history) half'.path.bus.flight s f (subst IsSound x.own sound)
+
+pub half_steps : {T R : Type 0} (lane : Lane) (link : Link) (w : Work) (shared' : Shared) (half' : Half T R) (answer : Answer) → Holds link → lane_of w ≡ Some lane
+    → Does w (shared_of link) shared' (half_of lane link) half' answer → Steps link (with_half lane link shared' half') (work link.script link.log.history w) answer
+half_steps Outward link w shared' half' answer k of d =
+    let x = is_worked link.script Outward w link.log.history shared'.journal.history of d.goes.adds.history_is in
     record {
-      script_is = refl;
-      history_is = d.adds.history_is;
+      script_is = ap (λ (s : Shared). s.script) d.goes.shares;
+      history_is = d.goes.adds.history_is;
       answers = d.answers;
       flights_are =
-          ap (λ g. lane_flights Outward (past Outward log'.history) out'.bus.flight ++ lane_flights Inward g link.inward.bus.flight) (x.other Inward refl)
-          ∙ ap (λ fs. fs ++ lane_flights Inward (past Inward link.log.history) link.inward.bus.flight)
-          (ap (λ g. lane_flights Outward g out'.bus.flight) x.own ∙ flight_kept Outward link.out (lines_in (work link.script link.log.history w)) (past Outward link.log.history) out'.bus.flight k.out_keeps.stands d.flight_is (subst IsSound x.own sound));
-      unchanged = out_unchanged link out' log' read' answer d.unchanged r;
+          ap (λ g. lane_flights Outward (past Outward shared'.journal.history) half'.path.bus.flight ++ lane_flights Inward g link.inward.bus.flight) (x.other Inward refl)
+          ∙ ap (λ fs. fs ++ lane_flights Inward (past Inward link.log.history) link.inward.bus.flight) (own_flights Outward w (shared_of link) shared' (half_of Outward link) half' k.out_lane of k.out_keeps.stands d.goes d.flight_is);
+      unchanged = unless answer _ _ (same_half Outward link shared' half') d.unchanged;
     }
-
-pub in_steps : (link : Link) (w : Work) (in' : Way) (log' : Log) (read' : Cursors) (answer : Answer) → Holds link → lane_of w ≡ Some Inward
-    → Does link.script link.phase w link.inward in' link.log log' answer → UnlessDid answer (read' ≡ link.in_read)
-    → Steps link (record link { log = log'; inward = in'; in_read = read' }) (work link.script link.log.history w) answer
-in_steps link w in' log' read' answer k of d r =
-    let x = is_worked link.script Inward w link.log.history log'.history of d.adds.history_is in
-    let at : in'.lane ≡ Inward = d.lane_is ∙ k.in_lane in
-    let sound : IsSound (past Inward log'.history) = subst (λ l. IsSound (past l log'.history)) at d.keeps.stands.sound in
+half_steps Inward link w shared' half' answer k of d =
+    let x = is_worked link.script Inward w link.log.history shared'.journal.history of d.goes.adds.history_is in
     record {
-      script_is = refl;
-      history_is = d.adds.history_is;
+      script_is = ap (λ (s : Shared). s.script) d.goes.shares;
+      history_is = d.goes.adds.history_is;
       answers = d.answers;
       flights_are =
-          ap (λ g. lane_flights Outward g link.out.bus.flight ++ lane_flights Inward (past Inward log'.history) in'.bus.flight) (x.other Outward refl)
-          ∙ ap (λ fs. lane_flights Outward (past Outward link.log.history) link.out.bus.flight ++ fs)
-          (ap (λ g. lane_flights Inward g in'.bus.flight) x.own ∙ flight_kept Inward link.inward (lines_in (work link.script link.log.history w)) (past Inward link.log.history) in'.bus.flight k.in_keeps.stands d.flight_is (subst IsSound x.own sound));
-      unchanged = in_unchanged link in' log' read' answer d.unchanged r;
+          ap (λ g. lane_flights Outward g link.out.bus.flight ++ lane_flights Inward (past Inward shared'.journal.history) half'.path.bus.flight) (x.other Outward refl)
+          ∙ ap (λ fs. lane_flights Outward (past Outward link.log.history) link.out.bus.flight ++ fs) (own_flights Inward w (shared_of link) shared' (half_of Inward link) half' k.in_lane of k.in_keeps.stands d.goes d.flight_is);
+      unchanged = unless answer _ _ (same_half Inward link shared' half') d.unchanged;
     }
 
--- A LANE'S TASKS
-
-pub task_lane : (lane : Lane) (task : Task) → lane_of (work_of lane task) ≡ Some lane
-task_lane lane Task.Tick = refl
-task_lane lane Task.TxDone = refl
-task_lane lane Task.RxDone = refl
-task_lane lane Task.Deliver = refl
-task_lane lane Task.Refill = refl
-task_lane lane Task.Unlink = refl
-task_lane lane Task.ClearHalt = refl
-
-pub task_calm : (lane : Lane) (task : Task) → is_calm (work_of lane task) ≡ true
-task_calm lane Task.Tick = refl
-task_calm lane Task.TxDone = refl
-task_calm lane Task.RxDone = refl
-task_calm lane Task.Deliver = refl
-task_calm lane Task.Refill = refl
-task_calm lane Task.Unlink = refl
-task_calm lane Task.ClearHalt = refl
-
--- the feeds are read as far as they were
-pub task_read : (script : Script) (lane : Lane) (task : Task) (log log' : Log) (c : Cursors) → Adds log log' (lines_in (work script log.history (work_of lane task))) → AreRead c (past lane log.history) → AreRead c (past lane log'.history)
-task_read script lane task log log' c a r =
-    read_same c (past lane log.history) (past lane log'.history) r
-    (λ s. ap (λ h. consumed (past lane h) s) a.history_is ∙ (calm_same script log.history (work_of lane task) lane (task_lane lane task) (task_calm lane task)).feeds s)
+-- the work of an action is its lane's
+pub acts_lane : (lane l : Lane) (action : Action) → acts_on action ≡ Some l → lane_of (work_of lane action) ≡ Some lane
+acts_lane lane l (Action.Offer m sender) e = refl
+acts_lane lane l (Action.Tick m) e = refl
+acts_lane lane l (Action.TxDone m) e = refl
+acts_lane lane l (Action.RxDone m) e = refl
+acts_lane lane l (Action.Deliver m) e = refl
+acts_lane lane l (Action.Refill m) e = refl
+acts_lane lane l (Action.Unlink m) e = refl
+acts_lane lane l (Action.ClearHalt m) e = refl
+acts_lane lane l action e = absurd (none-some l e)

@@ -1,7 +1,7 @@
--- A path after an offer.
-use Rattle.std.proofs.Common.{◌≡◌, ◌≢◌, ℕ, zero, suc, ◌+◌, ◌-◌, ◌<◌, ◌≤◌, ◌^◌, Bool, true, false, ◌&&◌, ◌==◌, nat_lt, List, [], ◌∷◌, ◌++◌, length, drop, slice_get, unwrap_or, Option, Some, None, refl, sym, ap, ◌∙◌, subst, arith, append-nil, if◌then◌else◌}
+-- A half after an offer.
+use Rattle.std.proofs.Common.{◌≡◌, ◌≢◌, ℕ, zero, suc, ◌+◌, ◌-◌, ◌<◌, ◌≤◌, ◌^◌, Bool, true, false, not, is_some, ◌&&◌, ◌==◌, nat_lt, List, [], ◌∷◌, ◌++◌, length, drop, slice_get, unwrap_or, Option, Some, None, refl, sym, ap, ◌∙◌, subst, arith, append-nil, if◌then◌else◌}
 use Rattle.std.proofs.lemmas.List.{drop-append-le}
-use Rattle.std.proofs.lemmas.Bool.{ne_eqb}
+use Rattle.std.proofs.lemmas.Bool.{ne_eqb, false≢true}
 use Rattle.std.proofs.lemmas.Bool.Decides.{nat_tests}
 use Rattle.un_frame.proofs.LaneLemmas.{same_lane-refl}
 use Rattle.un_endpoint.specs.Ends.{Transmitter}
@@ -35,8 +35,12 @@ use Rattle.un_lane.specs.Answered.{UnlessDid, IsUnchanged}
 use Rattle.un_lane.specs.Stands.{Stands}
 use Rattle.un_lane.specs.Phases.{Builds, offered}
 use Rattle.un_link.specs.declared.cursors.Cursors.{Cursors}
-use Rattle.un_link.specs.Keeps.{AreRead, Keeps, Does, cursor_at, advanced}
+use Rattle.un_link.specs.declared.half.Half.{Half}
+use Rattle.un_link.specs.declared.shared.Shared.{Shared}
+use Rattle.un_link.specs.Keeps.{AreRead, Keeps, cursor_at, advanced}
+use Rattle.un_link.specs.Halves.{IsKept, Does}
 use Rattle.un_link.proofs.Frames.{built_after}
+use Rattle.un_link.proofs.Unchanged.{both, half_unread}
 use Rattle.un_link.proofs.Working.{work_covers}
 
 -- FEEDS
@@ -69,6 +73,10 @@ head_is script lane g c (suc zero) r = ap (slice_get (frames_of script lane (suc
 head_is script lane g c (suc (suc zero)) r = ap (slice_get (frames_of script lane (suc (suc zero)))) (sym r.third)
 head_is script lane g c (suc (suc (suc zero))) r = ap (slice_get (frames_of script lane (suc (suc (suc zero))))) (sym r.fourth)
 head_is script lane g c (suc (suc (suc (suc n)))) r = nothing _ _ (frames_of script lane (suc (suc (suc (suc n))))) (no_frames script lane n)
+
+-- where the lane is known by another name, and the cursor was read
+pub feed_is : (script : Script) (own lane : Lane) (g : History) (c : Cursors) (s at : ℕ) (o : Option Frame) → own ≡ lane → AreRead c g → at ≡ cursor_at c s → slice_get (frames_of script lane s) at ≡ o → feed_head script own g s ≡ o
+feed_is script own lane g c s at o e r a f = head_is script own g c s r ∙ (ap (slice_get (frames_of script own s)) (sym a) ∙ subst (λ l. slice_get (frames_of script l s) at ≡ o) (sym e) f)
 
 one_more : (b : Bool) (n : ℕ) → more_if b n ≤ n + 1
 one_more true n = omega arith
@@ -175,39 +183,54 @@ accept_frames script lane sender frames frames' params g g' o t frame answer (to
     rw e (built_after (cover g) (cover g') (with_frame t frame) (datagrams script lane g') low
     (more ∙ ap (drop (cover g)) (sym (ap (datagrams script lane) p ∙ made_datagrams script lane params frames (bare (Took lane sender) ∷ g) closed))))
 
-pub accept_does : (script : Script) (phase : Phase) (old new : Way) (log log' : Log) (sender : ℕ) (frame : Frame) (answer : Answer)
+-- the lane's lines after an offer that is to be taken
+accept_onto : (script : Script) (phase : Phase) (old : Way) (log log' : Log) (sender : ℕ) (frame : Frame)
     → Keeps script phase old (past old.lane log.history) → phase ≡ phase_of script log.history → works phase ≡ true
     → feed_head script old.lane (past old.lane log.history) sender ≡ Some frame → verdict_of script.params old.lane frame ≡ Take
-    → Adds log log' (lines_in (accept old.tx.params old.lane sender (with_frame old.tx frame) (past old.lane log.history)))
-    → answer ≡ answer_in (accept old.tx.params old.lane sender (with_frame old.tx frame) (past old.lane log.history))
-    → Stands new (past new.lane log'.history)
-    → Builds (is_asleep phase) old new (offered old.tx frame answer) (past old.lane log.history) (past new.lane log'.history)
-    → new.bus.flight ≡ old.bus.flight → UnlessDid answer (IsUnchanged old new log log')
-    → Does script phase (Work.Offer old.lane sender) old new log log' answer
-accept_does script phase old new log log' sender frame answer k p w head v a e s l f u =
-    let g = past old.lane log.history in
+    → log'.history ≡ log.history ++ lines_in (accept old.tx.params old.lane sender (with_frame old.tx frame) (past old.lane log.history))
+    → past old.lane log'.history ≡ onto (lines_in (accept old.tx.params old.lane sender (with_frame old.tx frame) (past old.lane log.history))) (past old.lane log.history)
+accept_onto script phase old log log' sender frame k p w head v e =
     let o = accept_is script phase old log.history sender frame k p w head v in
-    let adds = subst (λ o. Adds log log' (lines_in o)) (sym o) a in
-    let own : past new.lane log'.history ≡ past old.lane log'.history = ap (λ lane. past lane log'.history) l.lane_is in
-    let sound : IsSound (past old.lane log'.history) = subst IsSound own s.sound in
-    let low = work_covers script log.history log'.history (Work.Offer old.lane sender) old.lane refl adds.history_is sound in
-    let longer : past old.lane log'.history ≡ onto (lines_in (accept old.tx.params old.lane sender (with_frame old.tx frame) g)) g =
-    ap (past old.lane) adds.history_is ∙ (past_own old.lane log.history (lines_in (work script log.history (Work.Offer old.lane sender))) (work_own script log.history (Work.Offer old.lane sender) old.lane refl).own ∙ ap (λ o. onto (lines_in o) g) o) in
+    ap (past old.lane) (e ∙ ap (λ o. log.history ++ lines_in o) (sym o))
+    ∙ (past_own old.lane log.history (lines_in (work script log.history (Work.Offer old.lane sender))) (work_own script log.history (Work.Offer old.lane sender) old.lane refl).own ∙ ap (λ o. onto (lines_in o) (past old.lane log.history)) o)
+
+pub accept_does : {T R : Type 0} (shared : Shared) (half : Half T R) (way' : Way) (log' : Log) (read' : Cursors) (sender : ℕ) (frame : Frame) (answer : Answer)
+    → IsKept shared half → works shared.phase ≡ true
+    → feed_head shared.script half.path.lane (past half.path.lane shared.journal.history) sender ≡ Some frame → verdict_of shared.script.params half.path.lane frame ≡ Take
+    → Adds shared.journal log' (lines_in (accept half.path.tx.params half.path.lane sender (with_frame half.path.tx frame) (past half.path.lane shared.journal.history)))
+    → answer ≡ answer_in (accept half.path.tx.params half.path.lane sender (with_frame half.path.tx frame) (past half.path.lane shared.journal.history))
+    → Stands way' (past way'.lane log'.history)
+    → Builds (is_asleep shared.phase) half.path way' (offered half.path.tx frame answer) (past half.path.lane shared.journal.history) (past way'.lane log'.history)
+    → way'.bus.flight ≡ half.path.bus.flight → UnlessDid answer (IsUnchanged half.path way' shared.journal log')
+    → AreRead read' (past half.path.lane log'.history) → UnlessDid answer (read' ≡ half.read)
+    → Does (Work.Offer half.path.lane sender) shared (record shared { journal = log' }) half (record half { path = way'; read = read' }) answer
+accept_does shared half way' log' read' sender frame answer k w head v a e s l f u read unread =
+    let g = past half.path.lane shared.journal.history in
+    let o = accept_is shared.script shared.phase half.path shared.journal.history sender frame k.keeps k.phase_is w head v in
+    let adds = subst (λ o. Adds shared.journal log' (lines_in o)) (sym o) a in
+    let own : past way'.lane log'.history ≡ past half.path.lane log'.history = ap (λ lane. past lane log'.history) l.lane_is in
+    let sound : IsSound (past half.path.lane log'.history) = subst IsSound own s.sound in
+    let low = work_covers shared.script shared.journal.history log'.history (Work.Offer half.path.lane sender) half.path.lane refl adds.history_is sound in
+    let longer = accept_onto shared.script shared.phase half.path shared.journal log' sender frame k.keeps k.phase_is w head v a.history_is in
     record {
-      adds = adds;
-      answers = e ∙ ap answer_in (sym o);
-      lane_is = l.lane_is;
-      keeps = record {
-        params_are = l.params_are ∙ k.params_are;
-        stands = s;
-        agrees = l.agrees;
-        frames_are = l.frames_are ∙ (subst (λ g'. drop (cover g' - cover g) (offered old.tx frame answer) ≡ built_frames script old.lane g') (sym own)
-            (accept_frames script old.lane sender (with_frame old.tx frame) [] old.tx.params g (past old.lane log'.history) _ old.tx frame answer
-            (accepts old.tx.params old.lane sender (with_frame old.tx frame) g) longer e low k.frames_are (took_frames script old g sender frame k.stands k.frames_are head))
-            ∙ ap (λ lane. built_frames script lane (past new.lane log'.history)) (sym l.lane_is));
+      goes = record {
+        shares = refl;
+        adds = adds;
+        lane_is = l.lane_is;
+        keeps = record {
+          params_are = l.params_are ∙ k.keeps.params_are;
+          stands = s;
+          agrees = l.agrees;
+          frames_are = l.frames_are ∙ (subst (λ g'. drop (cover g' - cover g) (offered half.path.tx frame answer) ≡ built_frames shared.script half.path.lane g') (sym own)
+              (accept_frames shared.script half.path.lane sender (with_frame half.path.tx frame) [] half.path.tx.params g (past half.path.lane log'.history) _ half.path.tx frame answer
+              (accepts half.path.tx.params half.path.lane sender (with_frame half.path.tx frame) g) longer e low k.keeps.frames_are (took_frames shared.script half.path g sender frame k.keeps.stands k.keeps.frames_are head))
+              ∙ ap (λ lane. built_frames shared.script lane (past way'.lane log'.history)) (sym l.lane_is));
+        };
+        read_is = read;
       };
+      answers = e ∙ ap answer_in (sym o);
       flight_is = f;
-      unchanged = u;
+      unchanged = both answer _ _ _ (half_unread shared half way' log' read') u unread;
     }
 
 -- the feeds after an offer that is to be taken: its sender's cursor moves where it was taken
@@ -218,17 +241,6 @@ accept_reads params lane sender frames g o (took closed) e j = made_consumed lan
 accept_keeps : (params : Params) (lane : Lane) (sender : ℕ) (frames : List Frame) (g : History) (o : Outcome) → Accepts params lane sender frames g o → (answer_in o ≡ Answer.Did → ⊥) → lines_in o ≡ []
 accept_keeps params lane sender frames g o busy n = refl
 accept_keeps params lane sender frames g o (took closed) n = absurd (n refl)
-
--- the lane's lines after it
-accept_onto : (script : Script) (phase : Phase) (old : Way) (log log' : Log) (sender : ℕ) (frame : Frame)
-    → Keeps script phase old (past old.lane log.history) → phase ≡ phase_of script log.history → works phase ≡ true
-    → feed_head script old.lane (past old.lane log.history) sender ≡ Some frame → verdict_of script.params old.lane frame ≡ Take
-    → log'.history ≡ log.history ++ lines_in (accept old.tx.params old.lane sender (with_frame old.tx frame) (past old.lane log.history))
-    → past old.lane log'.history ≡ onto (lines_in (accept old.tx.params old.lane sender (with_frame old.tx frame) (past old.lane log.history))) (past old.lane log.history)
-accept_onto script phase old log log' sender frame k p w head v e =
-    let o = accept_is script phase old log.history sender frame k p w head v in
-    ap (past old.lane) (e ∙ ap (λ o. log.history ++ lines_in o) (sym o))
-    ∙ (past_own old.lane log.history (lines_in (work script log.history (Work.Offer old.lane sender))) (work_own script log.history (Work.Offer old.lane sender) old.lane refl).own ∙ ap (λ o. onto (lines_in o) (past old.lane log.history)) o)
 
 pub accept_advances : (script : Script) (phase : Phase) (old : Way) (log log' : Log) (c : Cursors) (sender : ℕ) (frame : Frame) (answer : Answer)
     → Keeps script phase old (past old.lane log.history) → phase ≡ phase_of script log.history → works phase ≡ true
@@ -273,32 +285,32 @@ refused_stands way lane sender why g w = record {
   texts = w.texts;
 }
 
-pub refuse_does : (script : Script) (phase : Phase) (way : Way) (log log' : Log) (lane : Lane) (sender : ℕ) (frame : Frame) (why : Verdict) → way.lane ≡ lane
-    → Keeps script phase way (past lane log.history) → phase ≡ phase_of script log.history → works phase ≡ true
-    → feed_head script lane (past lane log.history) sender ≡ Some frame → verdict_of script.params lane frame ≡ why → why ≢ Take
-    → Adds log log' (bare (Refused lane sender why) ∷ [])
-    → Does script phase (Work.Offer lane sender) way way log log' Answer.Did
-refuse_does script phase way log log' lane sender frame why at k p w head v n a =
-    let o = refuse_is script log.history lane sender frame why (ap works (sym p) ∙ w) head v n in
-    let longer : past way.lane log'.history ≡ bare (Refused lane sender why) ∷ past lane log.history = ap (λ l. past l log'.history) at ∙ (ap (past lane) a.history_is ∙ own_past log.history (bare (Refused lane sender why)) lane (same_lane-refl lane)) in
+pub refuse_does : {T R : Type 0} (shared : Shared) (half : Half T R) (log' : Log) (read' : Cursors) (sender : ℕ) (frame : Frame) (why : Verdict) → IsKept shared half → works shared.phase ≡ true
+    → feed_head shared.script half.path.lane (past half.path.lane shared.journal.history) sender ≡ Some frame → verdict_of shared.script.params half.path.lane frame ≡ why → why ≢ Take
+    → Adds shared.journal log' (bare (Refused half.path.lane sender why) ∷ []) → read' ≡ advanced sender half.read
+    → Does (Work.Offer half.path.lane sender) shared (record shared { journal = log' }) half (record half { read = read' }) Answer.Did
+refuse_does shared half log' read' sender frame why k w head v n a e =
+    let o = refuse_is shared.script shared.journal.history half.path.lane sender frame why (ap works (sym k.phase_is) ∙ w) head v n in
+    let longer : past half.path.lane log'.history ≡ bare (Refused half.path.lane sender why) ∷ past half.path.lane shared.journal.history =
+    ap (past half.path.lane) a.history_is ∙ own_past shared.journal.history (bare (Refused half.path.lane sender why)) half.path.lane (same_lane-refl half.path.lane) in
     record {
-      adds = subst (λ o. Adds log log' (lines_in o)) (sym o) a;
+      goes = record {
+        shares = refl;
+        adds = subst (λ o. Adds shared.journal log' (lines_in o)) (sym o) a;
+        lane_is = refl;
+        keeps = subst (Keeps shared.script shared.phase half.path) (sym longer) (record {
+          params_are = k.keeps.params_are;
+          stands = refused_stands half.path half.path.lane sender why (past half.path.lane shared.journal.history) k.keeps.stands;
+          agrees = k.keeps.agrees;
+          frames_are = k.keeps.frames_are;
+        });
+        read_is = subst (λ (c : Cursors). AreRead c (past half.path.lane log'.history)) (sym e)
+            (advanced_read half.read (past half.path.lane shared.journal.history) (past half.path.lane log'.history) sender k.read_is (λ j. ap (λ g. consumed g j) longer));
+      };
       answers = ap answer_in (sym o);
-      lane_is = refl;
-      keeps = subst (Keeps script phase way) (sym longer) (record {
-        params_are = k.params_are;
-        stands = refused_stands way lane sender why (past lane log.history) k.stands;
-        agrees = k.agrees;
-        frames_are = k.frames_are;
-      });
       flight_is = refl;
       unchanged = tt;
     }
-
-pub refuse_reads : (log log' : Log) (c : Cursors) (lane : Lane) (sender : ℕ) (why : Verdict) → log'.history ≡ log.history ++ bare (Refused lane sender why) ∷ [] → AreRead c (past lane log.history) → AreRead (advanced sender c) (past lane log'.history)
-refuse_reads log log' c lane sender why e r =
-    advanced_read c (past lane log.history) (past lane log'.history) sender r
-    (λ j. ap (λ g. consumed g j) (ap (past lane) e ∙ own_past log.history (bare (Refused lane sender why)) lane (same_lane-refl lane)))
 
 pub pushed : (log log' : Log) (line : Line) → log'.history ≡ log.history ++ bare line ∷ [] → log'.spare_lines + 1 ≡ log.spare_lines → log'.spare_bytes + 0 ≡ log.spare_bytes → Adds log log' (bare line ∷ [])
 pushed log log' line e l b = record { history_is = e; lines_left = l; bytes_left = omega (arith, b) }
@@ -327,8 +339,9 @@ pub take_still : (script : Script) (phase : Phase) (way : Way) (h : History) (se
 take_still script phase way h sender frame k p w head v = ap is_still (accept_is script phase way h sender frame k p w head v)
 
 -- an offer from a feed without a further frame writes nothing
-pub spent_writes : (script : Script) (h : History) (lane : Lane) (c : Cursors) (s at : ℕ) → AreRead c (past lane h) → at ≡ cursor_at c s
-    → slice_get (frames_of script lane s) at ≡ None → step_of script h (Action.Offer lane s) ≡ []
-spent_writes script h lane c s at r a none =
-    let head : feed_head script lane (past lane h) s ≡ None = head_is script lane (past lane h) c s r ∙ ap (slice_get (frames_of script lane s)) (sym a) ∙ none in
-    rw head refl
+pub spent_writes : (script : Script) (h : History) (lane : Lane) (s : ℕ) → not (is_some (feed_head script lane (past lane h) s)) ≡ true → step_of script h (Action.Offer lane s) ≡ []
+spent_writes script h lane s none = go (feed_head script lane (past lane h) s) none
+  where
+    go : (o : Option Frame) → not (is_some o) ≡ true → lines_in (offer_head script (phase_of script h) lane s (past lane h) o) ≡ []
+    go None e = refl
+    go (Some frame) e = absurd (false≢true e)

@@ -1,8 +1,6 @@
 -- Steps that write nothing.
-use Rattle.std.proofs.Common.{◌≡◌, ℕ, ◌<◌, Bool, true, false, nat_lt, ◌∷◌, None, reverse, refl, sym, ap, subst, ◌∙◌, arith, if◌then◌else◌}
+use Rattle.std.proofs.Common.{◌≡◌, ℕ, ◌<◌, Bool, true, false, nat_lt, ◌∷◌, reverse, refl, sym, ap, subst, ◌∙◌, arith, if◌then◌else◌}
 use Rattle.std.proofs.lemmas.Bool.Decides.{nat_tests}
-use Rattle.un_lane.proofs.Adding.{adds_none}
-use Rattle.un_frame.specs.declared.params.Lane.{Lane}
 use Rattle.un_frame.specs.declared.params.Lane.TheVariants.{Outward, Inward}
 use Rattle.un_frame.specs.declared.kinds.Phase.{Phase}
 use Rattle.un_journal.specs.declared.lines.Line.{Line}
@@ -10,37 +8,14 @@ use Rattle.un_journal.specs.declared.actions.Answer.{Answer}
 use Rattle.un_journal.specs.declared.controls.Due.{Due}
 use Rattle.un_journal.specs.Script.{Script}
 use Rattle.un_journal.specs.History.{History, past}
-use Rattle.un_journal.specs.Log.{Log}
-use Rattle.un_journal.specs.Lookup.{phase_of, controls_done, feed_head}
-use Rattle.un_journal.specs.LaneSteps.{Outcome, Writes, Answers, lines_in, answer_in, bare}
-use Rattle.un_journal.specs.Step.{Work, work, offer_head, order_lines, hinders, control_now}
+use Rattle.un_journal.specs.Lookup.{phase_of, controls_done}
+use Rattle.un_journal.specs.LaneSteps.{Outcome, Writes, Answers, bare}
+use Rattle.un_journal.specs.Step.{order_lines, hinders, control_now}
 use Rattle.un_lane.specs.Stands.{Stands}
-use Rattle.un_lane.specs.Way.{Way, Adds}
-use Rattle.un_lane.specs.Answered.{IsUnchanged}
-use Rattle.un_link.specs.Keeps.{Keeps, Does}
+use Rattle.un_lane.specs.Way.{Way}
 use Rattle.un_link.specs.Link.{Link, Steps}
 use Rattle.un_link.specs.Requests.{KeepsRequests}
 use Rattle.un_link.proofs.Controlling.{same_steps}
-use Rattle.un_link.proofs.Unchanged.{always}
-
--- a lane's work that answers alone
-idle_does : (script : Script) (phase : Phase) (w : Work) (way : Way) (log : Log) (answer : Answer) → work script log.history w ≡ Answers answer
-    → Keeps script phase way (past way.lane log.history) → Does script phase w way way log log answer
-idle_does script phase w way log answer e k = record {
-  adds = subst (λ (o : Outcome). Adds log log (lines_in o)) (sym e) (adds_none log);
-  answers = ap answer_in (sym e);
-  lane_is = refl;
-  keeps = k;
-  flight_is = refl;
-  unchanged = always answer (IsUnchanged way way log log) (refl, refl);
-}
-
--- an offer of an empty feed
-pub spent_does : (script : Script) (phase : Phase) (way : Way) (log : Log) (lane : Lane) (sender : ℕ) → way.lane ≡ lane → Keeps script phase way (past lane log.history)
-    → feed_head script lane (past lane log.history) sender ≡ None → Does script phase (Work.Offer lane sender) way way log log Answer.Spent
-spent_does script phase way log lane sender at keeps none =
-    idle_does script phase (Work.Offer lane sender) way log Answer.Spent (ap (offer_head script (phase_of script log.history) lane sender (past lane log.history)) none)
-    (subst (λ (l : Lane). Keeps script phase way (past l log.history)) (sym at) keeps)
 
 where_true : (b : Bool) (x y : Outcome) → b ≡ true → (if b then x else y) ≡ x
 where_true true x y e = refl

@@ -1,5 +1,5 @@
 -- Calls that change nothing.
-use Rattle.std.proofs.Common.{◌≡◌, refl, ap, ◌∙◌}
+use Rattle.std.proofs.Common.{◌≡◌, ap, ◌∙◌}
 use Rattle.un_journal.specs.declared.actions.Answer.{Answer}
 use Rattle.un_journal.specs.declared.got.Got.{Got}
 use Rattle.un_journal.specs.declared.got.Got.TheVariants.{Part, Cut, Not}
@@ -7,7 +7,8 @@ use Rattle.un_journal.specs.Log.{Log}
 use Rattle.un_lane.specs.Way.{Way}
 use Rattle.un_lane.specs.Answered.{UnlessDid, UnlessTaken, IsUnchanged}
 use Rattle.un_link.specs.declared.cursors.Cursors.{Cursors}
-use Rattle.un_link.specs.Link.{Link}
+use Rattle.un_link.specs.declared.half.Half.{Half}
+use Rattle.un_link.specs.declared.shared.Shared.{Shared}
 use Rattle.un_link.specs.Flights.{LaneTrip}
 
 -- what holds in any case
@@ -15,42 +16,26 @@ pub always : (answer : Answer) (P : Type 0) → P → UnlessDid answer P
 always Answer.Did P p = tt
 always answer P p = p
 
--- the feeds are read as far as they were
-pub same_read : (answer : Answer) (c : Cursors) → UnlessDid answer (c ≡ c)
-same_read answer c = always answer (c ≡ c) refl
+-- what follows from it
+pub unless : (answer : Answer) (P Q : Type 0) → (P → Q) → UnlessDid answer P → UnlessDid answer Q
+unless Answer.Did P Q to p = tt
+unless answer P Q to p = to p
 
-both : (answer : Answer) (P Q R : Type 0) → (P → Q → R) → UnlessDid answer P → UnlessDid answer Q → UnlessDid answer R
+pub both : (answer : Answer) (P Q R : Type 0) → (P → Q → R) → UnlessDid answer P → UnlessDid answer Q → UnlessDid answer R
 both Answer.Did P Q R f p q = tt
 both answer P Q R f p q = f p q
 
-taken : (got : Got LaneTrip) (P Q : Type 0) → (P → Q) → UnlessTaken got P → UnlessTaken got Q
+pub taken : (got : Got LaneTrip) (P Q : Type 0) → (P → Q) → UnlessTaken got P → UnlessTaken got Q
 taken (Part f) P Q to p = tt
 taken Cut P Q to p = tt
 taken (Not answer) P Q to p = to p
 
--- A LINK IS UNCHANGED WHERE ITS PARTS ARE
+-- a half and what is shared are unchanged where the path and the history are
+pub half_unread : {T R : Type 0} (shared : Shared) (half : Half T R) (way' : Way) (log' : Log) (read' : Cursors) → IsUnchanged half.path way' shared.journal log' → read' ≡ half.read
+    → (record half { path = way'; read = read' } ≡ half) × (record shared { journal = log' } ≡ shared)
+half_unread shared half way' log' read' same unread =
+    (ap (λ (w : Way). record half { path = w; read = read' }) same.0 ∙ ap (λ (c : Cursors). record half { read = c }) unread, ap (λ (l : Log). record shared { journal = l }) same.1)
 
-out_is : (link : Link) (out' : Way) (log' : Log) (read' : Cursors) → IsUnchanged link.out out' link.log log' → read' ≡ link.out_read → record link { log = log'; out = out'; out_read = read' } ≡ link
-out_is link out' log' read' same read =
-    ap (λ (w : Way). record link { log = log'; out = w; out_read = read' }) same.0
-    ∙ (ap (λ (l : Log). record link { log = l; out_read = read' }) same.1 ∙ ap (λ (c : Cursors). record link { out_read = c }) read)
-
-in_is : (link : Link) (in' : Way) (log' : Log) (read' : Cursors) → IsUnchanged link.inward in' link.log log' → read' ≡ link.in_read → record link { log = log'; inward = in'; in_read = read' } ≡ link
-in_is link in' log' read' same read =
-    ap (λ (w : Way). record link { log = log'; inward = w; in_read = read' }) same.0
-    ∙ (ap (λ (l : Log). record link { log = l; in_read = read' }) same.1 ∙ ap (λ (c : Cursors). record link { in_read = c }) read)
-
-pub out_unchanged : (link : Link) (out' : Way) (log' : Log) (read' : Cursors) (answer : Answer) → UnlessDid answer (IsUnchanged link.out out' link.log log') → UnlessDid answer (read' ≡ link.out_read)
-    → UnlessDid answer (record link { log = log'; out = out'; out_read = read' } ≡ link)
-out_unchanged link out' log' read' answer u r = both answer _ _ _ (out_is link out' log' read') u r
-
-pub in_unchanged : (link : Link) (in' : Way) (log' : Log) (read' : Cursors) (answer : Answer) → UnlessDid answer (IsUnchanged link.inward in' link.log log') → UnlessDid answer (read' ≡ link.in_read)
-    → UnlessDid answer (record link { log = log'; inward = in'; in_read = read' } ≡ link)
-in_unchanged link in' log' read' answer u r = both answer _ _ _ (in_is link in' log' read') u r
-
--- a take that is refused
-pub out_refused : (link : Link) (out' : Way) (log' : Log) (got : Got LaneTrip) → UnlessTaken got (IsUnchanged link.out out' link.log log') → UnlessTaken got (record link { log = log'; out = out' } ≡ link)
-out_refused link out' log' got u = taken got _ _ (λ same. out_is link out' log' link.out_read same refl) u
-
-pub in_refused : (link : Link) (in' : Way) (log' : Log) (got : Got LaneTrip) → UnlessTaken got (IsUnchanged link.inward in' link.log log') → UnlessTaken got (record link { log = log'; inward = in' } ≡ link)
-in_refused link in' log' got u = taken got _ _ (λ same. in_is link in' log' link.in_read same refl) u
+pub half_same : {T R : Type 0} (shared : Shared) (half : Half T R) (way' : Way) (log' : Log) → IsUnchanged half.path way' shared.journal log'
+    → (record half { path = way' } ≡ half) × (record shared { journal = log' } ≡ shared)
+half_same shared half way' log' same = (ap (λ (w : Way). record half { path = w }) same.0, ap (λ (l : Log). record shared { journal = l }) same.1)

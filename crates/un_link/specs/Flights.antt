@@ -2,7 +2,6 @@
 use Rattle.std.specs.Prelude.{◌≡◌, ℕ, List, [], ◌∷◌, Option, Some, None}
 use Rattle.un_frame.specs.declared.params.Lane.{Lane}
 use Rattle.un_frame.specs.declared.params.Lane.TheVariants.{Outward, Inward}
-use Rattle.un_frame.specs.declared.kinds.Phase.{Phase}
 use Rattle.un_endpoint.specs.Bus.{Trip}
 use Rattle.un_journal.specs.declared.lines.Line.TheVariants.{Flying, Cut as CutLine}
 use Rattle.un_journal.specs.declared.got.Got.{Got}
@@ -14,9 +13,11 @@ use Rattle.un_journal.specs.History.{History, past, span, made_bytes}
 use Rattle.un_journal.specs.Log.{Log}
 use Rattle.un_journal.specs.LaneSteps.{Outcome, Writes, Answers, lines_in, bare}
 use Rattle.un_journal.specs.Step.{Work, work}
-use Rattle.un_lane.specs.Way.{Way, Adds}
-use Rattle.un_lane.specs.Answered.{UnlessTaken, IsUnchanged}
-use Rattle.un_link.specs.Keeps.{Keeps}
+use Rattle.un_lane.specs.Way.{Way}
+use Rattle.un_lane.specs.Answered.{UnlessTaken}
+use Rattle.un_link.specs.declared.half.Half.{Half}
+use Rattle.un_link.specs.declared.shared.Shared.{Shared}
+use Rattle.un_link.specs.Halves.{Goes}
 use Rattle.un_link.specs.Link.{Link, lane_flights}
 
 -- a flight with its lane
@@ -66,12 +67,6 @@ landed_lines script h transfer = lines_in (work script h (Work.Land transfer.lan
 
 -- ONE LANE
 
--- the path writes the lines of a lane's work and keeps what it kept; its flight may come or go
-pub record Goes (script : Script) (phase : Phase) (w : Work) (old new : Way) (log log' : Log) : Type 0 where
-  pub adds : Adds log log' (lines_in (work script log.history w))
-  pub lane_is : new.lane ≡ old.lane
-  pub keeps : Keeps script phase new (past new.lane log'.history)
-
 -- a flight came, and is the lane's only one
 pub record IsTaken (lane : Lane) (g : History) (outcome : Outcome) (f : LaneTrip) (before after : List Flight) : Type 0 where
   pub lane_is : f.lane ≡ lane
@@ -95,15 +90,15 @@ Came lane g outcome (Not answer) before after = (outcome ≡ Answers answer) × 
 abbrev pub path_flights : Way → Log → List Flight
 path_flights way log = lane_flights way.lane (past way.lane log.history) way.bus.flight
 
--- a path after a take, and after a landing
-pub record TakesOut (script : Script) (phase : Phase) (old new : Way) (log log' : Log) (got : Got LaneTrip) : Type 0 where
-  pub goes : Goes script phase (Work.Take old.lane) old new log log'
-  pub came : Came old.lane (past old.lane log.history) (work script log.history (Work.Take old.lane)) got (path_flights old log) (path_flights new log')
-  pub unchanged : UnlessTaken got (IsUnchanged old new log log')
+-- a half after a take, and after a landing
+pub record TakesOut {T R : Type 0} (shared shared' : Shared) (half half' : Half T R) (got : Got LaneTrip) : Type 0 where
+  pub goes : Goes (Work.Take half.path.lane) shared shared' half half'
+  pub came : Came half.path.lane (past half.path.lane shared.journal.history) (work shared.script shared.journal.history (Work.Take half.path.lane)) got (path_flights half.path shared.journal) (path_flights half'.path shared'.journal)
+  pub unchanged : UnlessTaken got ((half' ≡ half) × (shared' ≡ shared))
 
-pub record BringsBack (script : Script) (phase : Phase) (old new : Way) (log log' : Log) : Type 0 where
-  pub goes : Goes script phase (Work.Land old.lane) old new log log'
-  pub none_out : new.bus.flight ≡ None
+pub record BringsBack {T R : Type 0} (shared shared' : Shared) (half half' : Half T R) : Type 0 where
+  pub goes : Goes (Work.Land half.path.lane) shared shared' half half'
+  pub none_out : half'.path.bus.flight ≡ None
 
 -- BOTH LANES
 

@@ -1,5 +1,6 @@
 pub mod Flights
 pub mod Keeps
+pub mod Halves
 pub mod Link
 pub mod Ends
 pub mod Drain

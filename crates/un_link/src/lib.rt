@@ -4,14 +4,13 @@
 mod cursors;
 mod ends;
 mod flight;
+mod half;
 mod homes;
 mod link;
 mod offer;
 mod orders;
 mod room;
-mod task;
-mod transfer;
-mod work;
+mod shared;
 
 pub use ends::Link;
 pub use flight::{LinkCarried, LinkFlight};

@@ -16,15 +16,13 @@ mod settle;
 mod step;
 mod tells;
 
-use crate::cursors::Cursors;
-use crate::room::{bytes_of, lines_of};
+use crate::half::Half;
+use crate::shared::Shared;
 pub use drain::ROUND;
 use std::alloc::{AllocError, Global};
 use std::marker::Model;
 use un_endpoint::{RxEnd, TxEnd};
-use un_frame::{Lane, Phase};
-use un_journal::Journal;
-use un_lane::Path;
+use un_frame::Lane;
 use un_script::Script;
 
 /// A link: two lanes between a host and a gadget, the script that says what is sent and done, and the one history of both lanes. `A` and `B` are the outward lane's transmitting and receiving
@@ -32,14 +30,9 @@ use un_script::Script;
 /// after its making takes memory.
 #[derive(Drop)]
 pub struct LinkOver<A: TxEnd + Drop, B: RxEnd + Drop, C: TxEnd + Drop, D: RxEnd + Drop> {
-    script: Script,
-    journal: Journal,
-    out: Path<A, B>,
-    inward: Path<C, D>,
-    out_read: Cursors,
-    in_read: Cursors,
-    phase: Phase,
-    done: u32,
+    out: Half<A, B>,
+    inward: Half<C, D>,
+    shared: Shared,
 }
 
 impl<A: TxEnd + Drop, B: RxEnd + Drop, C: TxEnd + Drop, D: RxEnd + Drop> Model
@@ -48,9 +41,9 @@ impl<A: TxEnd + Drop, B: RxEnd + Drop, C: TxEnd + Drop, D: RxEnd + Drop> Model
 
     ghost Value = { Link };
 
-    ghost view = { λ l. record { script = l.script; log = l.journal; out = l.out; inward = l.inward; out_read = l.out_read; in_read = l.in_read; phase = l.phase; done = l.done } };
+    ghost view = { λ l. record { script = l.shared.script; log = l.shared.journal; out = l.out.path; inward = l.inward.path; out_read = l.out.read; in_read = l.inward.read; phase = l.shared.phase; done = l.shared.done } };
 
-    ghost invariant = { λ l. Holds (record { script = l.script; log = l.journal; out = l.out; inward = l.inward; out_read = l.out_read; in_read = l.in_read; phase = l.phase; done = l.done }) };
+    ghost invariant = { λ l. Holds (record { script = l.shared.script; log = l.shared.journal; out = l.out.path; inward = l.inward.path; out_read = l.out.read; in_read = l.inward.read; phase = l.shared.phase; done = l.shared.done }) };
 }
 
 impl<A: TxEnd + Drop, B: RxEnd + Drop, C: TxEnd + Drop, D: RxEnd + Drop> LinkOver<A, B, C, D> {
@@ -71,37 +64,16 @@ impl<A: TxEnd + Drop, B: RxEnd + Drop, C: TxEnd + Drop, D: RxEnd + Drop> LinkOve
         ensures { IfOk result (λ l. (l.script ≡ script) × (l.log.history ≡ []) × (l.phase ≡ Up) × (flights_of l ≡ [])) }
     {
         script.is_ready();
-        let lines = lines_of(&script);
-        let Some(bytes) = bytes_of(&script) else {
-            return Err(AllocError);
-        };
         let params = *script.params();
-        let journal = Journal::make(alloc, lines, bytes)?;
-        let out = Path::make(
-            alloc,
-            Lane::Outward,
-            out_tx,
-            out_rx,
-            params.tx_out,
-            params.rx_out,
-        )?;
-        let inward = Path::make(
-            alloc,
-            Lane::Inward,
-            in_tx,
-            in_rx,
-            params.tx_in,
-            params.rx_in,
-        )?;
+        let (tx_count, rx_count) = (params.tx_out, params.rx_out);
+        let out = Half::make(alloc, Lane::Outward, out_tx, out_rx, tx_count, rx_count)?;
+        let (tx_count, rx_count) = (params.tx_in, params.rx_in);
+        let inward = Half::make(alloc, Lane::Inward, in_tx, in_rx, tx_count, rx_count)?;
+        let shared = Shared::make(alloc, script)?;
         Ok(LinkOver {
-            script,
-            journal,
             out,
             inward,
-            out_read: Cursors::start(),
-            in_read: Cursors::start(),
-            phase: Phase::Up,
-            done: 0,
+            shared,
         })
     }
 }

@@ -3,31 +3,17 @@
 ghost use Rattle.std.specs.Prelude.{◌≡◌, ◌++◌};
 ghost use Rattle.un_frame.specs.declared.params.Lane.TheVariants.{Inward, Outward};
 ghost use Rattle.un_journal.specs.History.{past};
-ghost use Rattle.un_journal.specs.Lookup.{after_order};
 ghost use Rattle.un_journal.specs.Step.{hinders, order_lines};
 ghost use Rattle.un_lane.specs.Controls.{Stays, dropped_lines, posted_lines, unmarked_lines};
 ghost use Rattle.un_lane.specs.Phases.{IsDropped};
 ghost use Rattle.un_lane.specs.Way.{HasRoom};
 ghost use Rattle.un_link.specs.Orders.{AreBoth, DoBoth, KeepBoth, Obeys};
 
+use crate::shared::Shared;
 use un_endpoint::{RxEnd, TxEnd};
-use un_frame::{Lane, Phase};
+use un_frame::Lane;
 use un_journal::{Control, Journal};
 use un_lane::Path;
-use un_script::Script;
-
-/// The phase that a control leaves.
-pub(crate) fn phase_after(control: Control, phase: Phase) -> Phase
-    ensures { result ≡ after_order control phase }
-{
-    match control {
-        Control::Suspend => Phase::Asleep,
-        Control::Resume | Control::Up => Phase::Up,
-        Control::Down => Phase::Stopping,
-        Control::Unplug => Phase::Leaving,
-        Control::Unlink { .. } => phase,
-    }
-}
 
 /// Cuts what is deferred and drops what is built, the outward lane before the inward one.
 fn drop_both<A: TxEnd + Drop, B: RxEnd + Drop, C: TxEnd + Drop, D: RxEnd + Drop>(
@@ -77,21 +63,17 @@ fn recall_both<A: TxEnd + Drop, B: RxEnd + Drop, C: TxEnd + Drop, D: RxEnd + Dro
 fn unlink<A: TxEnd + Drop, B: RxEnd + Drop, C: TxEnd + Drop, D: RxEnd + Drop>(
     out: &mut Path<A, B>,
     inward: &mut Path<C, D>,
-    journal: &mut Journal,
-    script: &Script,
-    phase: Phase,
+    shared: &mut Shared,
     lane: Lane,
-    cause: u32,
 )
-    requires keep { KeepBoth script.now phase out.old inward.old journal.old }
-    requires room { HasRoom journal.old (order_lines (Control.Unlink lane) cause phase (past Outward journal.old.history) (past Inward journal.old.history)) }
-    ensures { Obeys script.now (Control.Unlink lane) cause phase out.old out.new inward.old inward.new journal.old journal.new }
+    requires keep { KeepBoth shared.old.script shared.old.phase out.old inward.old shared.old.journal }
+    requires room { HasRoom shared.old.journal (order_lines (Control.Unlink lane) shared.old.done shared.old.phase (past Outward shared.old.journal.history) (past Inward shared.old.journal.history)) }
+    ensures obeys { Obeys shared.old.script (Control.Unlink lane) shared.old.done shared.old.phase out.old out.new inward.old inward.new shared.old.journal shared.new.journal }
+    ensures shares { shared.new ≡ record shared.old { journal = shared.new.journal } }
 {
-    let _ = script;
-    let _ = phase;
     match lane {
-        Lane::Outward => out.mark_all(journal, cause),
-        Lane::Inward => inward.mark_all(journal, cause),
+        Lane::Outward => out.mark_all(&mut shared.journal, shared.done),
+        Lane::Inward => inward.mark_all(&mut shared.journal, shared.done),
     }
 }
 
@@ -99,42 +81,37 @@ fn unlink<A: TxEnd + Drop, B: RxEnd + Drop, C: TxEnd + Drop, D: RxEnd + Drop>(
 fn unplug<A: TxEnd + Drop, B: RxEnd + Drop, C: TxEnd + Drop, D: RxEnd + Drop>(
     out: &mut Path<A, B>,
     inward: &mut Path<C, D>,
-    journal: &mut Journal,
-    script: &Script,
-    phase: Phase,
-    cause: u32,
+    shared: &mut Shared,
 )
-    requires keep { KeepBoth script.now phase out.old inward.old journal.old }
-    requires room { HasRoom journal.old (order_lines Control.Unplug cause phase (past Outward journal.old.history) (past Inward journal.old.history)) }
-    ensures { Obeys script.now Control.Unplug cause phase out.old out.new inward.old inward.new journal.old journal.new }
+    requires keep { KeepBoth shared.old.script shared.old.phase out.old inward.old shared.old.journal }
+    requires room { HasRoom shared.old.journal (order_lines Control.Unplug shared.old.done shared.old.phase (past Outward shared.old.journal.history) (past Inward shared.old.journal.history)) }
+    ensures obeys { Obeys shared.old.script Control.Unplug shared.old.done shared.old.phase out.old out.new inward.old inward.new shared.old.journal shared.new.journal }
+    ensures shares { shared.new ≡ record shared.old { journal = shared.new.journal } }
 {
-    let _ = script;
-    let _ = phase;
-    drop_both(out, inward, journal, cause);
-    mark_both(out, inward, journal, cause);
-    recall_both(out, inward, journal);
+    let cause = shared.done;
+    drop_both(out, inward, &mut shared.journal, cause);
+    mark_both(out, inward, &mut shared.journal, cause);
+    recall_both(out, inward, &mut shared.journal);
 }
 
-/// Does what a control says, with its lines; `cause` is its index. Before a suspend nothing is queued outward and nothing flies.
+/// Does what a control says, with its lines; the controls that are done are its index. Before a suspend nothing is queued outward and nothing flies.
 pub(crate) fn obey<A: TxEnd + Drop, B: RxEnd + Drop, C: TxEnd + Drop, D: RxEnd + Drop>(
     out: &mut Path<A, B>,
     inward: &mut Path<C, D>,
-    journal: &mut Journal,
-    script: &Script,
-    phase: Phase,
+    shared: &mut Shared,
     control: Control,
-    cause: u32,
 )
-    requires keep { KeepBoth script.now phase out.old inward.old journal.old }
-    requires room { HasRoom journal.old (order_lines control cause phase (past Outward journal.old.history) (past Inward journal.old.history)) }
-    requires free { hinders control phase (past Outward journal.old.history) (past Inward journal.old.history) ≡ 0 }
-    ensures { Obeys script.now control cause phase out.old out.new inward.old inward.new journal.old journal.new }
+    requires keep { KeepBoth shared.old.script shared.old.phase out.old inward.old shared.old.journal }
+    requires room { HasRoom shared.old.journal (order_lines control shared.old.done shared.old.phase (past Outward shared.old.journal.history) (past Inward shared.old.journal.history)) }
+    requires free { hinders control shared.old.phase (past Outward shared.old.journal.history) (past Inward shared.old.journal.history) ≡ 0 }
+    ensures obeys { Obeys shared.old.script control shared.old.done shared.old.phase out.old out.new inward.old inward.new shared.old.journal shared.new.journal }
+    ensures shares { shared.new ≡ record shared.old { journal = shared.new.journal } }
 {
     match control {
-        Control::Suspend => inward.recall_all(journal),
+        Control::Suspend => inward.recall_all(&mut shared.journal),
         Control::Resume | Control::Up => out.resume(),
-        Control::Unlink { lane } => unlink(out, inward, journal, script, phase, lane, cause),
-        Control::Down => drop_both(out, inward, journal, cause),
-        Control::Unplug => unplug(out, inward, journal, script, phase, cause),
+        Control::Unlink { lane } => unlink(out, inward, shared, lane),
+        Control::Down => drop_both(out, inward, &mut shared.journal, shared.done),
+        Control::Unplug => unplug(out, inward, shared),
     }
 }

@@ -20,12 +20,12 @@ impl<A: TxEnd + Drop, B: RxEnd + Drop, C: TxEnd + Drop, D: RxEnd + Drop> LinkOve
         ensures names { number < taken (past lane self.now.log.history) → NamesPlace result (past lane self.now.log.history) number }
         ensures nowhere { taken (past lane self.now.log.history) ≤ number → result ≡ nowhere }
     {
-        let _ = &self.journal;
+        let journal = &self.shared.journal;
         let census = self.path_census(lane, number);
         if number >= self.accepted(lane) {
             return census;
         }
-        let given = count(was_given(&self.journal, lane, number));
+        let given = count(was_given(journal, lane, number));
         filled(census, given)
     }
 
@@ -34,8 +34,8 @@ impl<A: TxEnd + Drop, B: RxEnd + Drop, C: TxEnd + Drop, D: RxEnd + Drop> LinkOve
         ensures { result ≡ record (census self.now.script self.now.log.history lane number) { given = 0; lost = 0 } }
     {
         match lane {
-            Lane::Outward => self.out.census(number),
-            Lane::Inward => self.inward.census(number),
+            Lane::Outward => self.out.path.census(number),
+            Lane::Inward => self.inward.path.census(number),
         }
     }
 }

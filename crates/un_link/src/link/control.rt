@@ -1,29 +1,19 @@
 //! The controls of a link.
 
-ghost use Rattle.std.specs.Prelude.{◌≡◌, ◌||◌, Some, not, is_some, length, reverse, slice_get};
+ghost use Rattle.std.specs.Prelude.{◌≡◌, Some, not, is_some, length, reverse, slice_get};
 ghost use Rattle.un_journal.specs.History.{past, taken};
-ghost use Rattle.un_journal.specs.Lookup.{controls_done, feeds_empty, is_leaving, is_stopping};
-ghost use Rattle.un_journal.specs.Script.{frames_of};
+ghost use Rattle.un_journal.specs.Lookup.{controls_done, feed_head, feeds_empty};
 ghost use Rattle.un_journal.specs.Step.{control, control_now, hinders, is_due};
 ghost use Rattle.un_lane.specs.Stands.{flight_serial};
-ghost use Rattle.un_link.specs.Keeps.{AreRead, cursor_at};
 ghost use Rattle.un_link.specs.Link.{Steps};
 
-use crate::cursors::Cursors;
 use crate::link::LinkOver;
-use crate::orders::{obey, phase_after};
+use crate::orders::obey;
+use crate::shared::{phase_after, stops};
 use un_endpoint::{RxEnd, TxEnd};
-use un_frame::{Lane, Phase};
-use un_journal::{Answer, Control, Due, Journal, Line};
+use un_frame::Lane;
+use un_journal::{Answer, Control, Due, Line};
 use un_lane::Path;
-use un_script::Script;
-
-/// Whether a stop or an unplugging isn't settled yet.
-pub(crate) fn stops(phase: Phase) -> bool
-    ensures { result ≡ (is_stopping phase || is_leaving phase) }
-{
-    matches!(phase, Phase::Stopping | Phase::Leaving)
-}
 
 /// How many flights of a lane are out: one or none.
 fn flights_out<T: TxEnd + Drop, R: RxEnd + Drop>(path: &Path<T, R>) -> u64
@@ -35,37 +25,15 @@ fn flights_out<T: TxEnd + Drop, R: RxEnd + Drop>(path: &Path<T, R>) -> u64
     }
 }
 
-/// Whether a sender's feed is empty.
-fn is_spent(script: &Script, lane: Lane, sender: u32, read: &Cursors) -> bool
-    ensures { result ≡ not (is_some (slice_get (frames_of script.now lane sender) (cursor_at read.now sender))) }
-{
-    match script.frame(lane, sender, read.at(sender)) {
-        Some(_) => false,
-        None => true,
-    }
-}
-
-/// Whether the feeds of all four senders of a lane are empty.
-fn feeds_spent(script: &Script, lane: Lane, read: &Cursors, journal: &Journal) -> bool
-    requires { AreRead read.now (past lane journal.now.history) }
-    ensures { result ≡ feeds_empty script.now lane (past lane journal.now.history) }
-{
-    let _ = journal;
-    is_spent(script, lane, 0, read)
-        && is_spent(script, lane, 1, read)
-        && is_spent(script, lane, 2, read)
-        && is_spent(script, lane, 3, read)
-}
-
 impl<A: TxEnd + Drop, B: RxEnd + Drop, C: TxEnd + Drop, D: RxEnd + Drop> LinkOver<A, B, C, D> {
     /// Does the first control that isn't done, where it is due, or where it is forced and the link is quiet.
     pub(crate) fn control(&mut self, force: bool) -> Answer
         ensures { Steps self.old self.new (control self.old.script self.old.log.history force) result }
     {
-        let Some(due) = self.script.control(self.done) else {
+        let Some(due) = self.shared.script.control(self.shared.done) else {
             return Answer::NoControl;
         };
-        let phase = self.phase;
+        let phase = self.shared.phase;
         if stops(phase) {
             return Answer::Down { phase };
         }
@@ -91,20 +59,20 @@ impl<A: TxEnd + Drop, B: RxEnd + Drop, C: TxEnd + Drop, D: RxEnd + Drop> LinkOve
         if count > 0 {
             return Answer::InFlight { count };
         }
-        self.script.is_ready();
-        let index = self.done;
-        self.journal.push(Line::Control { index, forced }, &[]);
+        self.shared.script.is_ready();
+        let index = self.shared.done;
+        let phase = phase_after(due.control, self.shared.phase);
+        self.shared
+            .journal
+            .push(Line::Control { index, forced }, &[]);
         obey(
-            &mut self.out,
-            &mut self.inward,
-            &mut self.journal,
-            &self.script,
-            self.phase,
+            &mut self.out.path,
+            &mut self.inward.path,
+            &mut self.shared,
             due.control,
-            index,
         );
-        self.phase = phase_after(due.control, self.phase);
-        self.done += 1;
+        self.shared.phase = phase;
+        self.shared.done = index + 1;
         Answer::Did
     }
 
@@ -129,7 +97,9 @@ impl<A: TxEnd + Drop, B: RxEnd + Drop, C: TxEnd + Drop, D: RxEnd + Drop> LinkOve
     fn in_flight(&self) -> u64
         ensures { result ≡ hinders Control.Suspend self.now.phase (past Lane.Outward self.now.log.history) (past Lane.Inward self.now.log.history) }
     {
-        u64::from(self.out.queued()) + flights_out(&self.out) + flights_out(&self.inward)
+        u64::from(self.out.path.queued())
+            + flights_out(&self.out.path)
+            + flights_out(&self.inward.path)
     }
 
     /// How many datagrams of a lane were accepted.
@@ -137,8 +107,8 @@ impl<A: TxEnd + Drop, B: RxEnd + Drop, C: TxEnd + Drop, D: RxEnd + Drop> LinkOve
         ensures { result ≡ taken (past lane self.now.log.history) }
     {
         match lane {
-            Lane::Outward => self.out.accepted(),
-            Lane::Inward => self.inward.accepted(),
+            Lane::Outward => self.out.path.accepted(),
+            Lane::Inward => self.inward.path.accepted(),
         }
     }
 
@@ -146,9 +116,20 @@ impl<A: TxEnd + Drop, B: RxEnd + Drop, C: TxEnd + Drop, D: RxEnd + Drop> LinkOve
     fn has_spent(&self, lane: Lane) -> bool
         ensures { result ≡ feeds_empty self.now.script lane (past lane self.now.log.history) }
     {
+        self.is_spent(lane, 0)
+            && self.is_spent(lane, 1)
+            && self.is_spent(lane, 2)
+            && self.is_spent(lane, 3)
+    }
+
+    /// Whether a sender's feed is empty.
+    pub(crate) fn is_spent(&self, lane: Lane, sender: u32) -> bool
+        ensures { result ≡ not (is_some (feed_head self.now.script lane (past lane self.now.log.history) sender)) }
+    {
+        let script = &self.shared.script;
         match lane {
-            Lane::Outward => feeds_spent(&self.script, lane, &self.out_read, &self.journal),
-            Lane::Inward => feeds_spent(&self.script, lane, &self.in_read, &self.journal),
+            Lane::Outward => self.out.is_spent(script, lane, sender),
+            Lane::Inward => self.inward.is_spent(script, lane, sender),
         }
     }
 }

@@ -2,8 +2,6 @@
 
 ghost use Rattle.std.specs.Prelude.{◌≡◌, ◌<◌, ◌++◌, [], Some, slice_get, true};
 ghost use Rattle.un_frame.specs.declared.params.Lane.{Lane as JournalLane};
-ghost use Rattle.un_frame.specs.declared.params.Lane.TheVariants.{Outward, Inward};
-ghost use Rattle.un_journal.specs.declared.actions.Action.TheVariants.{Offer};
 ghost use Rattle.un_journal.specs.Done.{IsFinished};
 ghost use Rattle.un_journal.specs.Drain.{drain, round, run};
 ghost use Rattle.un_journal.specs.Fits.{IsDone};
@@ -100,7 +98,7 @@ impl<A: TxEnd + Drop, B: RxEnd + Drop, C: TxEnd + Drop, D: RxEnd + Drop> LinkOve
         ensures kept { (lane : JournalLane) → IsPrefix (given (past lane self.old.log.history)) (given (past lane self.new.log.history)) }
         ensures flights { flights_of self.new ≡ [] }
     {
-        let _ = &self.journal;
+        let _ = &self.shared;
         while self.drain_on() {}
     }
 
@@ -108,13 +106,13 @@ impl<A: TxEnd + Drop, B: RxEnd + Drop, C: TxEnd + Drop, D: RxEnd + Drop> LinkOve
     fn drain_on(&mut self) -> bool
         ensures { DrainsOn self.old self.new result }
     {
-        let before = self.journal.len();
+        let before = self.shared.journal.len();
         self.round();
-        if self.journal.len() > before {
+        if self.shared.journal.len() > before {
             return true;
         }
         self.step(Action::Control { force: true });
-        self.journal.len() > before
+        self.shared.journal.len() > before
     }
 
     /// Every action once.
@@ -135,45 +133,18 @@ impl<A: TxEnd + Drop, B: RxEnd + Drop, C: TxEnd + Drop, D: RxEnd + Drop> LinkOve
         ensures history { self.new.log.history ≡ self.old.log.history ++ step_of self.old.script self.old.log.history action }
         ensures flights { flights_of self.new ≡ flights_of self.old }
     {
-        if !self.is_spent(action) {
+        if !self.passes_over(action) {
             self.step(action);
         }
     }
 
     /// Whether an action is an offer from a feed without a further frame.
-    fn is_spent(&self, action: Action) -> bool
+    fn passes_over(&self, action: Action) -> bool
         ensures { result ≡ true → step_of self.now.script self.now.log.history action ≡ [] }
     {
         match action {
-            Action::Offer {
-                lane: Lane::Outward,
-                sender,
-            } => self.is_out_spent(sender),
-            Action::Offer {
-                lane: Lane::Inward,
-                sender,
-            } => self.is_in_spent(sender),
+            Action::Offer { lane, sender } => self.is_spent(lane, sender),
             _ => false,
-        }
-    }
-
-    fn is_out_spent(&self, sender: u32) -> bool
-        ensures { result ≡ true → step_of self.now.script self.now.log.history (Offer Outward sender) ≡ [] }
-    {
-        let at = self.out_read.at(sender);
-        match self.script.frame(Lane::Outward, sender, at) {
-            Some(_) => false,
-            None => true,
-        }
-    }
-
-    fn is_in_spent(&self, sender: u32) -> bool
-        ensures { result ≡ true → step_of self.now.script self.now.log.history (Offer Inward sender) ≡ [] }
-    {
-        let at = self.in_read.at(sender);
-        match self.script.frame(Lane::Inward, sender, at) {
-            Some(_) => false,
-            None => true,
         }
     }
 }

@@ -11,7 +11,6 @@ ghost use Rattle.un_link.specs.Link.{Steps, flights_of};
 
 use crate::flight::{LinkCarried, LinkFlight};
 use crate::link::LinkOver;
-use crate::transfer::{land, take};
 use un_endpoint::{RxEnd, TxEnd};
 use un_frame::Lane;
 use un_journal::{Answer, Got};
@@ -27,20 +26,8 @@ impl<A: TxEnd + Drop, B: RxEnd + Drop, C: TxEnd + Drop, D: RxEnd + Drop> LinkOve
         ensures refused { UnlessTaken result (self.new ≡ self.old) }
     {
         match lane {
-            Lane::Outward => take(
-                &mut self.out,
-                &mut self.journal,
-                &self.script,
-                self.phase,
-                lane,
-            ),
-            Lane::Inward => take(
-                &mut self.inward,
-                &mut self.journal,
-                &self.script,
-                self.phase,
-                lane,
-            ),
+            Lane::Outward => self.out.take(&mut self.shared, lane),
+            Lane::Inward => self.inward.take(&mut self.shared, lane),
         }
     }
 
@@ -54,20 +41,8 @@ impl<A: TxEnd + Drop, B: RxEnd + Drop, C: TxEnd + Drop, D: RxEnd + Drop> LinkOve
         ensures lanes { LandsIn carried.lane self.old self.new }
     {
         match carried.lane {
-            Lane::Outward => land(
-                &mut self.out,
-                &mut self.journal,
-                &self.script,
-                self.phase,
-                carried,
-            ),
-            Lane::Inward => land(
-                &mut self.inward,
-                &mut self.journal,
-                &self.script,
-                self.phase,
-                carried,
-            ),
+            Lane::Outward => self.out.land(&mut self.shared, carried),
+            Lane::Inward => self.inward.land(&mut self.shared, carried),
         }
         Answer::Did
     }
@@ -80,7 +55,7 @@ impl<A: TxEnd + Drop, B: RxEnd + Drop, C: TxEnd + Drop, D: RxEnd + Drop> LinkOve
             Got::Part(flight) => self.land_flight(flight.carry()),
             Got::Cut => {
                 // None of the lane's flights is out, so nothing would land.
-                let _ = &self.journal;
+                let _ = &self.shared;
                 Answer::Did
             }
             Got::Not(answer) => answer,

@@ -67,7 +67,7 @@ impl<A: TxEnd + Drop, B: RxEnd + Drop, C: TxEnd + Drop, D: RxEnd + Drop> Machine
 
     fn finished(&self) -> bool {
         // What flies is what the history says.
-        let _ = &self.journal;
+        let _ = &self.shared;
         self.finished()
     }
 }

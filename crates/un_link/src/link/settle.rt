@@ -2,27 +2,15 @@
 
 ghost use Rattle.std.specs.Prelude.{◌≡◌, ◌==◌, ◌&&◌, ◌∷◌, []};
 ghost use Rattle.un_journal.specs.History.{past};
-ghost use Rattle.un_journal.specs.Lookup.{after_settled, rx_home, tx_home};
 ghost use Rattle.un_journal.specs.LaneSteps.{Writes, bare};
 ghost use Rattle.un_journal.specs.Step.{all_home, away, settle, settled_line};
 ghost use Rattle.un_link.specs.Link.{Steps};
 
 use crate::link::LinkOver;
-use crate::link::control::stops;
+use crate::shared::{phase_settled, stops};
 use un_endpoint::{RxEnd, TxEnd};
-use un_frame::{Params, Phase};
+use un_frame::Params;
 use un_journal::{Answer, Line};
-
-/// The phase after a stop is settled.
-fn phase_settled(phase: Phase) -> Phase
-    ensures { result ≡ after_settled phase }
-{
-    match phase {
-        Phase::Stopping => Phase::Down,
-        Phase::Leaving => Phase::Away,
-        other => other,
-    }
-}
 
 /// Whether so many requests are all of their pools.
 fn are_full(params: &Params, tx_out: u32, rx_out: u32, tx_in: u32, rx_in: u32) -> bool
@@ -39,7 +27,7 @@ impl<A: TxEnd + Drop, B: RxEnd + Drop, C: TxEnd + Drop, D: RxEnd + Drop> LinkOve
     pub(crate) fn settle(&mut self) -> Answer
         ensures { Steps self.old self.new (settle self.old.script self.old.log.history) result }
     {
-        if !stops(self.phase) {
+        if !stops(self.shared.phase) {
             return Answer::Nothing;
         }
         if !self.has_all_home() {
@@ -55,9 +43,9 @@ impl<A: TxEnd + Drop, B: RxEnd + Drop, C: TxEnd + Drop, D: RxEnd + Drop> LinkOve
         requires { settle self.old.script self.old.log.history ≡ Writes (bare (settled_line self.old.script self.old.log.history) ∷ []) }
         ensures { Steps self.old self.new (settle self.old.script self.old.log.history) result }
     {
-        let (tx_out, rx_out) = self.out.homes();
-        let (tx_in, rx_in) = self.inward.homes();
-        self.journal.push(
+        let (tx_out, rx_out) = self.out.path.homes();
+        let (tx_in, rx_in) = self.inward.path.homes();
+        self.shared.journal.push(
             Line::Settled {
                 tx_out,
                 rx_out,
@@ -66,9 +54,10 @@ impl<A: TxEnd + Drop, B: RxEnd + Drop, C: TxEnd + Drop, D: RxEnd + Drop> LinkOve
             },
             &[],
         );
-        self.out.settle();
-        self.inward.settle();
-        self.phase = phase_settled(self.phase);
+        self.out.path.settle();
+        self.inward.path.settle();
+        let phase = phase_settled(self.shared.phase);
+        self.shared.phase = phase;
         Answer::Did
     }
 
@@ -76,9 +65,9 @@ impl<A: TxEnd + Drop, B: RxEnd + Drop, C: TxEnd + Drop, D: RxEnd + Drop> LinkOve
     pub(crate) fn has_all_home(&self) -> bool
         ensures { result ≡ all_home self.now.script self.now.log.history }
     {
-        let params = self.script.params();
-        let (tx_out, rx_out) = self.out.homes();
-        let (tx_in, rx_in) = self.inward.homes();
+        let params = self.shared.script.params();
+        let (tx_out, rx_out) = self.out.path.homes();
+        let (tx_in, rx_in) = self.inward.path.homes();
         are_full(params, tx_out, rx_out, tx_in, rx_in)
     }
 
@@ -86,9 +75,9 @@ impl<A: TxEnd + Drop, B: RxEnd + Drop, C: TxEnd + Drop, D: RxEnd + Drop> LinkOve
     pub(crate) fn requests_away(&self) -> u64
         ensures { result ≡ away self.now.script self.now.log.history }
     {
-        let params = self.script.params();
-        let (tx_out, rx_out) = self.out.homes();
-        let (tx_in, rx_in) = self.inward.homes();
+        let params = self.shared.script.params();
+        let (tx_out, rx_out) = self.out.path.homes();
+        let (tx_in, rx_in) = self.inward.path.homes();
         let pools = u64::from(params.tx_out)
             + u64::from(params.rx_out)
             + u64::from(params.tx_in)

@@ -1,15 +1,12 @@
 //! The steps of a link.
 
-ghost use Rattle.std.specs.Prelude.{◌≡◌, ◌++◌};
-ghost use Rattle.un_journal.specs.Step.{Offer, answer_of, step_of, work};
+ghost use Rattle.std.specs.Prelude.{◌≡◌, ◌++◌, Some};
+ghost use Rattle.un_journal.specs.Step.{answer_of, step_of, work};
 ghost use Rattle.un_lane.specs.Answered.{UnlessDid};
-ghost use Rattle.un_link.specs.Keeps.{work_of};
+ghost use Rattle.un_link.specs.Halves.{acts_on, work_of};
 ghost use Rattle.un_link.specs.Link.{Steps, flights_of};
 
 use crate::link::LinkOver;
-use crate::offer::offer;
-use crate::task::Task;
-use crate::work::work;
 use un_endpoint::{RxEnd, TxEnd};
 use un_frame::Lane;
 use un_journal::{Action, Answer};
@@ -24,68 +21,28 @@ impl<A: TxEnd + Drop, B: RxEnd + Drop, C: TxEnd + Drop, D: RxEnd + Drop> LinkOve
         ensures refused { UnlessDid result (self.new ≡ self.old) }
     {
         match action {
-            Action::Offer { lane, sender } => self.offer(lane, sender),
-            Action::Tick { lane } => self.lane_work(lane, Task::Tick),
+            Action::Offer { lane, .. } => self.lane_work(lane, action),
+            Action::Tick { lane } => self.lane_work(lane, action),
             Action::Move { lane } => self.move_flight(lane),
-            Action::TxDone { lane } => self.lane_work(lane, Task::TxDone),
-            Action::RxDone { lane } => self.lane_work(lane, Task::RxDone),
-            Action::Deliver { lane } => self.lane_work(lane, Task::Deliver),
-            Action::Refill { lane } => self.lane_work(lane, Task::Refill),
-            Action::Unlink { lane } => self.lane_work(lane, Task::Unlink),
-            Action::ClearHalt { lane } => self.lane_work(lane, Task::ClearHalt),
+            Action::TxDone { lane } => self.lane_work(lane, action),
+            Action::RxDone { lane } => self.lane_work(lane, action),
+            Action::Deliver { lane } => self.lane_work(lane, action),
+            Action::Refill { lane } => self.lane_work(lane, action),
+            Action::Unlink { lane } => self.lane_work(lane, action),
+            Action::ClearHalt { lane } => self.lane_work(lane, action),
             Action::Control { force } => self.control(force),
             Action::Settle => self.settle(),
         }
     }
 
-    /// Does a lane's work.
-    fn lane_work(&mut self, lane: Lane, task: Task) -> Answer
-        ensures { Steps self.old self.new (Rattle.un_journal.specs.Step.work self.old.script self.old.log.history (work_of lane task)) result }
-    {
-        let cause = self.done.saturating_sub(1);
-        match lane {
-            Lane::Outward => work(
-                &mut self.out,
-                &mut self.journal,
-                &self.script,
-                self.phase,
-                cause,
-                task,
-            ),
-            Lane::Inward => work(
-                &mut self.inward,
-                &mut self.journal,
-                &self.script,
-                self.phase,
-                cause,
-                task,
-            ),
-        }
-    }
-
-    /// Offers the head of a sender's feed.
-    fn offer(&mut self, lane: Lane, sender: u32) -> Answer
-        ensures { Steps self.old self.new (Rattle.un_journal.specs.Step.work self.old.script self.old.log.history (Offer lane sender)) result }
+    /// Does an action of one lane, but for a move.
+    fn lane_work(&mut self, lane: Lane, action: Action) -> Answer
+        requires { acts_on action ≡ Some lane }
+        ensures { Steps self.old self.new (work self.old.script self.old.log.history (work_of lane action)) result }
     {
         match lane {
-            Lane::Outward => offer(
-                &mut self.out,
-                &mut self.journal,
-                &mut self.out_read,
-                &self.script,
-                self.phase,
-                lane,
-                sender,
-            ),
-            Lane::Inward => offer(
-                &mut self.inward,
-                &mut self.journal,
-                &mut self.in_read,
-                &self.script,
-                self.phase,
-                lane,
-                sender,
-            ),
+            Lane::Outward => self.out.perform(&mut self.shared, action),
+            Lane::Inward => self.inward.perform(&mut self.shared, action),
         }
     }
 }

@@ -14,8 +14,7 @@ ghost use Rattle.un_link.specs.Requests.{KeepsRequests};
 
 use crate::homes::Homes;
 use crate::link::LinkOver;
-use crate::link::control::stops;
-use crate::offer::offers_nothing;
+use crate::shared::stops;
 use un_endpoint::{RxEnd, TxEnd};
 use un_frame::{Lane, Phase};
 use un_journal::{Census, Journal};
@@ -26,7 +25,7 @@ impl<A: TxEnd + Drop, B: RxEnd + Drop, C: TxEnd + Drop, D: RxEnd + Drop> LinkOve
     pub fn phase(&self) -> Phase
         ensures { result ≡ phase_of self.now.script self.now.log.history }
     {
-        self.phase
+        self.shared.phase
     }
 
     /// Lends the history. It is legal, and at every moment, that is after each of its steps, the laws hold: each accepted datagram is in exactly one place; what was given rises strictly and is unchanged; each
@@ -36,21 +35,21 @@ impl<A: TxEnd + Drop, B: RxEnd + Drop, C: TxEnd + Drop, D: RxEnd + Drop> LinkOve
         ensures legal { Legal self.now.script self.now.log.history }
         ensures moments { AtEveryMoment self.now.script self.now.log.history }
     {
-        &self.journal
+        &self.shared.journal
     }
 
     /// Lends the script that the link was made with.
     pub fn script(&self) -> &Script
         ensures { result.now ≡ self.now.script }
     {
-        &self.script
+        &self.shared.script
     }
 
     /// What holds of each link: its history is legal, and all that it keeps is what the history says.
     pub fn holds(&self)
         ensures { Holds self.now }
     {
-        let _ = &self.journal;
+        let _ = &self.shared;
     }
 
     /// Each request of each pool is in exactly one place, and as many are in all places together as the pool has.
@@ -58,7 +57,7 @@ impl<A: TxEnd + Drop, B: RxEnd + Drop, C: TxEnd + Drop, D: RxEnd + Drop> LinkOve
         ensures out { KeepsRequests self.now.out }
         ensures inward { KeepsRequests self.now.inward }
     {
-        let _ = &self.journal;
+        let _ = &self.shared;
     }
 
     /// How many requests of each pool are home.
@@ -68,8 +67,8 @@ impl<A: TxEnd + Drop, B: RxEnd + Drop, C: TxEnd + Drop, D: RxEnd + Drop> LinkOve
         ensures tx_in { result.tx_in ≡ tx_home self.now.script.params Inward (past Inward self.now.log.history) }
         ensures rx_in { result.rx_in ≡ rx_home self.now.script.params Inward (past Inward self.now.log.history) }
     {
-        let (tx_out, rx_out) = self.out.homes();
-        let (tx_in, rx_in) = self.inward.homes();
+        let (tx_out, rx_out) = self.out.path.homes();
+        let (tx_in, rx_in) = self.inward.path.homes();
         Homes {
             tx_out,
             rx_out,
@@ -82,8 +81,8 @@ impl<A: TxEnd + Drop, B: RxEnd + Drop, C: TxEnd + Drop, D: RxEnd + Drop> LinkOve
     pub fn quiet(&self) -> bool
         ensures { result ≡ quiet self.now.script self.now.log.history }
     {
-        let out = self.out.still(self.phase);
-        let inward = self.inward.still(self.phase);
+        let out = self.out.path.still(self.shared.phase);
+        let inward = self.inward.path.still(self.shared.phase);
         let offers = self.offers_nothing();
         let settles = self.would_settle();
         are_all(out, inward, offers, !settles)
@@ -95,28 +94,15 @@ impl<A: TxEnd + Drop, B: RxEnd + Drop, C: TxEnd + Drop, D: RxEnd + Drop> LinkOve
         ensures done { result ≡ true → IsDone self.now.script self.now.log.history }
         ensures finished { result ≡ true → IsFinished self.now.script self.now.log.history }
     {
-        self.quiet() && self.done == self.script.control_count()
+        self.quiet() && self.shared.done == self.shared.script.control_count()
     }
 
     /// Whether no offer would take or refuse a frame.
     fn offers_nothing(&self) -> bool
         ensures { result ≡ (offers_still self.now.script self.now.log.history Outward && offers_still self.now.script self.now.log.history Inward) }
     {
-        offers_nothing(
-            &self.out,
-            &self.out_read,
-            &self.journal,
-            &self.script,
-            self.phase,
-            Lane::Outward,
-        ) && offers_nothing(
-            &self.inward,
-            &self.in_read,
-            &self.journal,
-            &self.script,
-            self.phase,
-            Lane::Inward,
-        )
+        self.out.offers_nothing(&self.shared, Lane::Outward)
+            && self.inward.offers_nothing(&self.shared, Lane::Inward)
     }
 
     /// Whether a stop would settle.
@@ -124,7 +110,7 @@ impl<A: TxEnd + Drop, B: RxEnd + Drop, C: TxEnd + Drop, D: RxEnd + Drop> LinkOve
         ensures { is_still (work self.now.script self.now.log.history Settle) ≡ not result }
     {
         let away = self.requests_away();
-        stops(self.phase) && away == 0
+        stops(self.shared.phase) && away == 0
     }
 }
 

@@ -6,4 +6,4 @@ use Rattle.un_link.proofs.link.LinkOver.journal.Goals as goal
 
 pub returns-clause-moments : goal.returns-clause-moments
 returns-clause-moments g c =
-    subst (λ (l : Link). AtEveryMoment l.script l.log.history) c.self.view_is (lawful_moments c.self.inside.script c.self.inside.journal.history c.self.invariant.logged.in_range c.self.invariant.logged.agree)
+    subst (λ (l : Link). AtEveryMoment l.script l.log.history) c.self.view_is (lawful_moments c.self.inside.shared.script c.self.inside.shared.journal.history c.self.invariant.logged.in_range c.self.invariant.logged.agree)

@@ -1,4 +1,5 @@
 use Rattle.std.proofs.Common.{◌≡◌, ◌∙◌, sym, ap, slice_get, ◌+◌, ◌<◌, ◌^◌, arith}
+use Rattle.un_link.specs.declared.shared.Shared.{Shared}
 use Rattle.un_link.proofs.Controlling.{did_room, did_keep, order_room, order_holds, order_steps, index_small}
 use Rattle.un_link.proofs.Refusing.{hindered_steps}
 use Rattle.un_link.proofs.link.LinkOver.order.Goals as goal
@@ -22,24 +23,26 @@ obey-requires-clause-room g c =
 
 pub overflow_add-self : goal.overflow_add-self
 overflow_add-self g c =
-    let b : c.self.inside.done + 1 < 2 ^ 32 = index_small c.self.inside.script.controls c.self.inside.done c.args.due (ap (slice_get c.self.inside.script.controls) c.self.invariant.done_is ∙ (rw (← c.self.view_is) at c.requires.head)) c.is_ready.ensures.controls in
+    let b : c.self.inside.shared.done + 1 < 2 ^ 32 = index_small c.self.inside.shared.script.controls c.self.inside.shared.done c.args.due (ap (slice_get c.self.inside.shared.script.controls) c.self.invariant.done_is ∙ (rw (← c.self.view_is) at c.requires.head)) c.is_ready.ensures.controls in
     omega arith
 
 pub invariant_of-self : goal.invariant_of-self
 invariant_of-self g c =
     let none : c.hinders-count.result ≡ 0 = omega arith in
-    rw c.phase_after-self-inside.ensures
+    let o = c.obey.ensures in
+    rw c.phase_after-phase.ensures
     (order_holds _ c.self.invariant c.args.due c.args.forced (rw (← c.self.view_is) at c.requires.head) (rw (← c.self.view_is) at c.requires.fits) (rw (← c.self.view_is) at (sym c.hinders-count.ensures ∙ none))
     c.push.new.self c.push.ensures.history c.push.ensures.lines c.push.ensures.bytes
-    c.obey.new.journal c.obey.new.out c.obey.new.inward c.obey.ensures)
+    c.obey.new.shared.journal c.obey.new.out c.obey.new.inward _ (ap (λ (s : Shared). s.script) o.shares) o.obeys)
 
 pub returns : goal.returns
 returns g c =
     let none : c.hinders-count.result ≡ 0 = omega arith in
-    rw (← c.self.view_is, c.phase_after-self-inside.ensures)
+    let o = c.obey.ensures in
+    rw (← c.self.view_is, c.phase_after-phase.ensures)
     (order_steps _ c.self.invariant c.args.due c.args.forced (rw (← c.self.view_is) at c.requires.head) (rw (← c.self.view_is) at c.requires.fits) (rw (← c.self.view_is) at (sym c.hinders-count.ensures ∙ none))
     c.push.new.self c.push.ensures.history c.push.ensures.lines c.push.ensures.bytes
-    c.obey.new.journal c.obey.new.out c.obey.new.inward c.obey.ensures)
+    c.obey.new.shared.journal c.obey.new.out c.obey.new.inward _ (ap (λ (s : Shared). s.script) o.shares) o.obeys)
 
 pub returns-then-count-gt0 : goal.returns-then-count-gt0
 returns-then-count-gt0 g c =

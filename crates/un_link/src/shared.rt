@@ -1,0 +1,87 @@
+//! What both lanes of a link share.
+
+ghost use Rattle.std.specs.Prelude.{◌≡◌, ◌||◌, [], IfOk};
+ghost use Rattle.un_frame.specs.declared.kinds.Phase.TheVariants.{Up};
+ghost use Rattle.un_journal.specs.Bytes.{byte_bound};
+ghost use Rattle.un_journal.specs.Drain.{line_bound};
+ghost use Rattle.un_journal.specs.Lookup.{after_order, after_settled, is_asleep, is_leaving, is_stopping, works};
+
+use crate::room::{bytes_of, lines_of};
+use std::alloc::{AllocError, Global};
+use un_frame::Phase;
+use un_journal::{Control, Journal};
+use un_script::Script;
+
+/// The script, the one history of both lanes, the phase, and how many controls are done.
+#[derive(Drop)]
+pub struct Shared {
+    pub(crate) script: Script,
+    pub(crate) journal: Journal,
+    pub(crate) phase: Phase,
+    pub(crate) done: u32,
+}
+
+impl Shared {
+    /// An empty history with room for all that the script can make it, in phase `Up`. The error is want of memory.
+    pub(crate) fn make(alloc: Global, script: Script) -> Result<Shared, AllocError>
+        ensures { IfOk result (λ s. s ≡ record { script = script; journal = record { history = []; spare_lines = line_bound script; spare_bytes = byte_bound script }; phase = Up; done = 0 }) }
+    {
+        script.is_ready();
+        let lines = lines_of(&script);
+        let Some(bytes) = bytes_of(&script) else {
+            return Err(AllocError);
+        };
+        let journal = Journal::make(alloc, lines, bytes)?;
+        Ok(Shared {
+            script,
+            journal,
+            phase: Phase::Up,
+            done: 0,
+        })
+    }
+}
+
+/// Whether a link sleeps in this phase.
+pub(crate) fn sleeps(phase: Phase) -> bool
+    ensures { result ≡ is_asleep phase }
+{
+    matches!(phase, Phase::Asleep)
+}
+
+/// Whether frames are offered in this phase: up or asleep.
+pub(crate) fn takes_frames(phase: Phase) -> bool
+    ensures { result ≡ works phase }
+{
+    matches!(phase, Phase::Up | Phase::Asleep)
+}
+
+/// Whether a stop or an unplugging isn't settled yet.
+pub(crate) fn stops(phase: Phase) -> bool
+    ensures { result ≡ (is_stopping phase || is_leaving phase) }
+{
+    matches!(phase, Phase::Stopping | Phase::Leaving)
+}
+
+/// The phase that a control leaves.
+pub(crate) fn phase_after(control: Control, phase: Phase) -> Phase
+    ensures { result ≡ after_order control phase }
+{
+    match control {
+        Control::Suspend => Phase::Asleep,
+        Control::Resume | Control::Up => Phase::Up,
+        Control::Down => Phase::Stopping,
+        Control::Unplug => Phase::Leaving,
+        Control::Unlink { .. } => phase,
+    }
+}
+
+/// The phase after a stop is settled.
+pub(crate) fn phase_settled(phase: Phase) -> Phase
+    ensures { result ≡ after_settled phase }
+{
+    match phase {
+        Phase::Stopping => Phase::Down,
+        Phase::Leaving => Phase::Away,
+        other => other,
+    }
+}
