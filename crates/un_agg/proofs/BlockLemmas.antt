@@ -13,7 +13,7 @@ use Rattle.un_req.specs.Request.{Buffer}
 use Rattle.un_wire.specs.Codings.{coding_of}
 use Rattle.un_wire.specs.declared.codec.Codec.{Codec}
 use Rattle.un_agg.specs.Held.{Claim, claim_of}
-use Rattle.un_agg.specs.Block.{Block, IsBlock, IsBlockIn, IsKept, IsTransfer}
+use Rattle.un_agg.specs.Block.{Block, IsBlock, IsBlockIn, IsSoundBlock, IsTransfer}
 use Rattle.un_agg.specs.declared.block.OpenBlock.TheInside.{Inside}
 
 abbrev pub frames_of : Coding → Buffer → List (List ℕ)
@@ -101,8 +101,8 @@ seen p claim coding r frames g =
     ∙ ap (λ (c : Claim). block p frames c) g.claim_is
 
 -- and what is kept of it
-pub kept : (b : Inside) (codec : Codec) (r : Buffer) (claim : Claim) (frames : List (List ℕ)) → IsKept b → Grown (coding_of b.codec).params claim (coding_of codec) r frames
-    → IsKept (record { codec = codec; limit = b.limit; request = Some r })
+pub kept : (b : Inside) (codec : Codec) (r : Buffer) (claim : Claim) (frames : List (List ℕ)) → IsSoundBlock b → Grown (coding_of b.codec).params claim (coding_of codec) r frames
+    → IsSoundBlock (record { codec = codec; limit = b.limit; request = Some r })
 kept b codec r claim frames k g = record {
   in_range = subst AreInRange (sym g.params_are) k.in_range;
   agree = subst (λ (p : Params). Agree p) (sym g.params_are) k.agree;

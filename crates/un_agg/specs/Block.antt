@@ -45,7 +45,7 @@ abbrev pub IsBlockIn : Coding → Option Buffer → Type 0
 IsBlockIn coding None = Unit {0}
 IsBlockIn coding (Some r) = IsBlock coding r
 
-pub record IsKept (b : Inside) : Type 0 where
+pub record IsSoundBlock (b : Inside) : Type 0 where
   pub in_range : AreInRange (coding_of b.codec).params
   pub agree : Agree (coding_of b.codec).params
   pub limit : b.limit ≡ (coding_of b.codec).params.datagrams

@@ -23,13 +23,13 @@ pub struct OpenBlock {
 }
 
 impl Model for OpenBlock {
-    ghost use Rattle.un_agg.specs.Block.{Block, IsKept, block_in};
+    ghost use Rattle.un_agg.specs.Block.{Block, IsSoundBlock, block_in};
 
     ghost Value = { Block };
 
     ghost view = { block_in };
 
-    ghost invariant = { IsKept };
+    ghost invariant = { IsSoundBlock };
 }
 
 impl OpenBlock {

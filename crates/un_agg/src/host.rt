@@ -16,7 +16,7 @@ use un_req::{Pool, Request};
 use un_wire::{Codec, Wire};
 
 /// How many ticks an open block waits for after it got its first or its second datagram.
-const PATIENCE: u32 = 3;
+const TIMER_TICKS: u32 = 3;
 
 /// Builds the host's transfers (after Linux's cdc_ncm): it holds an open block in a request that it claimed of the lane's pool, or the one frame that the last block had no room for,
 /// or nothing. A pending count says how many ticks an open block still waits for; the code sets it to 3, and lowers it. No call after `make` takes memory.
@@ -140,7 +140,7 @@ impl HostAgg {
         if self.remainder.is_empty() {
             self.from = number;
             self.block.begin(request, frame);
-            return self.settle(serial);
+            return self.close_if_full(serial);
         }
         self.block.begin(request, &self.remainder);
         self.remainder.clear();
@@ -158,7 +158,7 @@ impl HostAgg {
     {
         if self.block.fits(frame.len() as u32) {
             self.block.append(frame);
-            return self.settle(serial);
+            return self.close_if_full(serial);
         }
         let request = self.close(serial);
         refill(&mut self.remainder, frame);
@@ -166,7 +166,7 @@ impl HostAgg {
     }
 
     /// Closes an open block that has reached its limit; else it stays, with its pending count.
-    fn settle(&mut self, serial: u64) -> Built
+    fn close_if_full(&mut self, serial: u64) -> Built
         requires opened { is_some self.old.claim ≡ true }
         ensures { Settles self.old self.new serial result }
     {
@@ -174,7 +174,7 @@ impl HostAgg {
             return Built::Made(self.close(serial));
         }
         if self.block.count() <= 2 {
-            self.pending = PATIENCE;
+            self.pending = TIMER_TICKS;
         }
         Built::Kept
     }

@@ -3,7 +3,7 @@ use Rattle.std.proofs.Common.{◌≡◌, ℕ, ◌-◌, ◌≤◌, List, [], ◌�
 use Rattle.std.specs.List.{AllByRecursion}
 use Rattle.circular_buffer.specs.Buffer.{Buffer as Ring, buffer}
 use Rattle.un_req.specs.Request.{Buffer}
-use Rattle.un_endpoint.specs.Inside.{IsKept}
+use Rattle.un_endpoint.specs.Inside.{IsSoundBus}
 use Rattle.un_endpoint.specs.declared.record.FlightRecord.{FlightRecord}
 use Rattle.un_endpoint.specs.declared.endpoint.Endpoint.TheInside.{Inside}
 
@@ -15,10 +15,10 @@ none_first : {X : Type 0} (xs : List X) → slice_get xs 0 ≡ None → length x
 none_first [] e = refl
 none_first (x ∷ xs) e = absurd (cc)
 
-pub departed : (e : Inside) (queue posted : Ring Buffer) (marks : Ring ℕ) (flight : Option FlightRecord) → IsKept e
+pub departed : (e : Inside) (queue posted : Ring Buffer) (marks : Ring ℕ) (flight : Option FlightRecord) → IsSoundBus e
     → queue ≡ buffer (drop 1 e.queue.items) e.queue.capacity → posted ≡ buffer (drop 1 e.posted.items) e.posted.capacity
     → marks ≡ buffer (drop 1 e.marks.items) e.marks.capacity → slice_get e.marks.items 0 ≡ None
-    → IsKept (record e { queue = queue; posted = posted; marks = marks; flight = flight; mark = None })
+    → IsSoundBus (record e { queue = queue; posted = posted; marks = marks; flight = flight; mark = None })
 departed e queue posted marks flight k q p m none =
     rw (q, p, m) (record {
       tx_fits = k.tx_fits;

@@ -18,7 +18,7 @@ bus_in e = record {
 }
 
 -- the causes are those of the first queued requests, and no transfer is longer than what is posted has room for
-pub record IsKept (e : Inside) : Type 0 where
+pub record IsSoundBus (e : Inside) : Type 0 where
   pub tx_fits : e.queue.capacity < 2 ^ 32
   pub rx_fits : e.posted.capacity < 2 ^ 32
   pub marks_fit : e.queue.capacity ≤ e.marks.capacity

@@ -33,11 +33,11 @@ impl Model for Endpoint {
 
     ghost Value = { Bus };
 
-    ghost use Rattle.un_endpoint.specs.Inside.{IsKept, bus_in};
+    ghost use Rattle.un_endpoint.specs.Inside.{IsSoundBus, bus_in};
 
     ghost view = { bus_in };
 
-    ghost invariant = { IsKept };
+    ghost invariant = { IsSoundBus };
 }
 
 impl Endpoint {

@@ -27,7 +27,7 @@ use Rattle.un_lane.specs.Answered.{UnlessTaken}
 use Rattle.un_link.specs.declared.half.Half.{Half}
 use Rattle.un_link.specs.declared.shared.Shared.{Shared}
 use Rattle.un_link.specs.Keeps.{AreRead, Keeps}
-use Rattle.un_link.specs.Halves.{IsKept, Ready, Goes, Does, acts_on, work_of}
+use Rattle.un_link.specs.Halves.{HalfKeeps, Ready, Goes, Does, acts_on, work_of}
 use Rattle.un_link.specs.Flights.{LaneTrip}
 use Rattle.un_link.specs.Link.{Link, IsLogged, Holds, Steps, lane_flights}
 use Rattle.un_link.proofs.Flying.{flight_kept}
@@ -97,7 +97,7 @@ abbrev pub with_half : {T R : Type 0} → Lane → Link → Shared → Half T R 
 with_half Outward link s half = record { script = s.script; log = s.journal; out = half.path; inward = link.inward; out_read = half.read; in_read = link.in_read; phase = s.phase; done = s.done }
 with_half Inward link s half = record { script = s.script; log = s.journal; out = link.out; inward = half.path; out_read = link.out_read; in_read = half.read; phase = s.phase; done = s.done }
 
-pub half_kept : {T R : Type 0} (lane : Lane) (link : Link) → Holds link → IsKept {T = T} {R = R} (shared_of link) (half_of lane link)
+pub half_kept : {T R : Type 0} (lane : Lane) (link : Link) → Holds link → HalfKeeps {T = T} {R = R} (shared_of link) (half_of lane link)
 half_kept Outward link k = record {
   in_range = k.logged.in_range;
   keeps = subst (λ l. Keeps link.script link.phase link.out (past l link.log.history)) (sym k.out_lane) k.out_keeps;

@@ -38,7 +38,7 @@ use Rattle.un_link.specs.declared.cursors.Cursors.{Cursors}
 use Rattle.un_link.specs.declared.half.Half.{Half}
 use Rattle.un_link.specs.declared.shared.Shared.{Shared}
 use Rattle.un_link.specs.Keeps.{AreRead, Keeps, cursor_at, advanced}
-use Rattle.un_link.specs.Halves.{IsKept, Does}
+use Rattle.un_link.specs.Halves.{HalfKeeps, Does}
 use Rattle.un_link.proofs.Frames.{built_after}
 use Rattle.un_link.proofs.Unchanged.{both, half_unread}
 use Rattle.un_link.proofs.Working.{work_covers}
@@ -195,7 +195,7 @@ accept_onto script phase old log log' sender frame k p w head v e =
     ∙ (past_own old.lane log.history (lines_in (work script log.history (Work.Offer old.lane sender))) (work_own script log.history (Work.Offer old.lane sender) old.lane refl).own ∙ ap (λ o. onto (lines_in o) (past old.lane log.history)) o)
 
 pub accept_does : {T R : Type 0} (shared : Shared) (half : Half T R) (way' : Way) (log' : Log) (read' : Cursors) (sender : ℕ) (frame : Frame) (answer : Answer)
-    → IsKept shared half → works shared.phase ≡ true
+    → HalfKeeps shared half → works shared.phase ≡ true
     → feed_head shared.script half.path.lane (past half.path.lane shared.journal.history) sender ≡ Some frame → verdict_of shared.script.params half.path.lane frame ≡ Take
     → Adds shared.journal log' (lines_in (accept half.path.tx.params half.path.lane sender (with_frame half.path.tx frame) (past half.path.lane shared.journal.history)))
     → answer ≡ answer_in (accept half.path.tx.params half.path.lane sender (with_frame half.path.tx frame) (past half.path.lane shared.journal.history))
@@ -285,7 +285,7 @@ refused_stands way lane sender why g w = record {
   texts = w.texts;
 }
 
-pub refuse_does : {T R : Type 0} (shared : Shared) (half : Half T R) (log' : Log) (read' : Cursors) (sender : ℕ) (frame : Frame) (why : Verdict) → IsKept shared half → works shared.phase ≡ true
+pub refuse_does : {T R : Type 0} (shared : Shared) (half : Half T R) (log' : Log) (read' : Cursors) (sender : ℕ) (frame : Frame) (why : Verdict) → HalfKeeps shared half → works shared.phase ≡ true
     → feed_head shared.script half.path.lane (past half.path.lane shared.journal.history) sender ≡ Some frame → verdict_of shared.script.params half.path.lane frame ≡ why → why ≢ Take
     → Adds shared.journal log' (bare (Refused half.path.lane sender why) ∷ []) → read' ≡ advanced sender half.read
     → Does (Work.Offer half.path.lane sender) shared (record shared { journal = log' }) half (record half { read = read' }) Answer.Did

@@ -22,7 +22,7 @@ use Rattle.un_lane.proofs.Lookups.{queued_is}
 use Rattle.un_link.specs.declared.half.Half.{Half}
 use Rattle.un_link.specs.declared.shared.Shared.{Shared}
 use Rattle.un_link.specs.Keeps.{Keeps}
-use Rattle.un_link.specs.Halves.{IsKept, Goes}
+use Rattle.un_link.specs.Halves.{HalfKeeps, Goes}
 use Rattle.un_link.specs.Link.{flight_in, lane_flights}
 use Rattle.un_link.specs.Flights.{LaneTrip, flight_of, got_outcome, TakesOut}
 use Rattle.un_link.proofs.Holding.{is_worked, own_flights}
@@ -77,10 +77,10 @@ taking_none asleep lane g queue [] lines e = refl
 taking_none asleep lane g queue (k ∷ ks) lines e = absurd (cc)
 
 -- where a take writes nothing flies
-was_none : {T R : Type 0} (shared : Shared) (half : Half T R) (lines : History) → IsKept shared half → work shared.script shared.journal.history (Work.Take half.path.lane) ≡ Writes lines → flight_serial half.path.bus.flight ≡ []
+was_none : {T R : Type 0} (shared : Shared) (half : Half T R) (lines : History) → HalfKeeps shared half → work shared.script shared.journal.history (Work.Take half.path.lane) ≡ Writes lines → flight_serial half.path.bus.flight ≡ []
 was_none shared half lines k e = sym k.keeps.stands.queues.fly ∙ taking_none _ _ (past half.path.lane shared.journal.history) _ (flying (past half.path.lane shared.journal.history)) lines e
 
-module _ {T R : Type 0} (shared : Shared) (half : Half T R) (way' : Way) (log' : Log) (k : IsKept shared half)
+module _ {T R : Type 0} (shared : Shared) (half : Half T R) (way' : Way) (log' : Log) (k : HalfKeeps shared half)
     (goes : Goes (Work.Take half.path.lane) shared (record shared { journal = log' }) half (record half { path = way' })) where
   pub part_came : (lane : Lane) (trip : Trip) → half.path.lane ≡ lane
       → Answered way' (past half.path.lane shared.journal.history) (work shared.script shared.journal.history (Work.Take half.path.lane)) (Part trip)

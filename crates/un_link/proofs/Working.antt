@@ -23,7 +23,7 @@ use Rattle.un_lane.proofs.Lookups.{unmarked_is}
 use Rattle.un_link.specs.declared.half.Half.{Half}
 use Rattle.un_link.specs.declared.shared.Shared.{Shared}
 use Rattle.un_link.specs.Keeps.{Keeps}
-use Rattle.un_link.specs.Halves.{IsKept, Goes, Does}
+use Rattle.un_link.specs.Halves.{HalfKeeps, Goes, Does}
 use Rattle.un_link.proofs.Frames.{is_calm, is_plain, calm_same, calm_read, plain_frames, built_after, covers_onto}
 use Rattle.un_link.proofs.Unchanged.{always, unless, half_same}
 
@@ -51,7 +51,7 @@ work_covers script h h' w lane of e sound =
 -- WORK THAT BUILDS NOTHING; its outcome is told in the path's own words
 
 pub plain_goes : {T R : Type 0} (w : Work) (o : Outcome) (shared : Shared) (half : Half T R) (way' : Way) (log' : Log)
-    → lane_of w ≡ Some half.path.lane → is_plain w ≡ true → IsKept shared half → o ≡ work shared.script shared.journal.history w
+    → lane_of w ≡ Some half.path.lane → is_plain w ≡ true → HalfKeeps shared half → o ≡ work shared.script shared.journal.history w
     → Adds shared.journal log' (lines_in o) → Stands way' (past way'.lane log'.history) → Leaves half.path way'
     → Goes w shared (record shared { journal = log' }) half (record half { path = way' })
 plain_goes w o shared half way' log' of plain k same a s l =
@@ -67,7 +67,7 @@ plain_goes w o shared half way' log' of plain k same a s l =
     }
 
 pub plain_does : {T R : Type 0} (w : Work) (o : Outcome) (shared : Shared) (half : Half T R) (way' : Way) (log' : Log) (answer : Answer)
-    → lane_of w ≡ Some half.path.lane → is_plain w ≡ true → IsKept shared half → o ≡ work shared.script shared.journal.history w
+    → lane_of w ≡ Some half.path.lane → is_plain w ≡ true → HalfKeeps shared half → o ≡ work shared.script shared.journal.history w
     → Adds shared.journal log' (lines_in o) → answer ≡ answer_in o → Stands way' (past way'.lane log'.history) → Leaves half.path way'
     → way'.bus.flight ≡ half.path.bus.flight → UnlessDid answer (IsUnchanged half.path way' shared.journal log')
     → Does w shared (record shared { journal = log' }) half (record half { path = way' }) answer
@@ -79,7 +79,7 @@ plain_does w o shared half way' log' answer of plain k same a e s l f u = record
 }
 
 -- work that answers alone
-pub idle_does : {T R : Type 0} (w : Work) (shared : Shared) (half : Half T R) (answer : Answer) → work shared.script shared.journal.history w ≡ Answers answer → IsKept shared half → Does w shared shared half half answer
+pub idle_does : {T R : Type 0} (w : Work) (shared : Shared) (half : Half T R) (answer : Answer) → work shared.script shared.journal.history w ≡ Answers answer → HalfKeeps shared half → Does w shared shared half half answer
 idle_does w shared half answer e k = record {
   goes = record { shares = refl; adds = subst (λ (o : Outcome). Adds shared.journal shared.journal (lines_in o)) (sym e) (adds_none shared.journal); lane_is = refl; keeps = k.keeps; read_is = k.read_is };
   answers = ap answer_in (sym e);
@@ -111,7 +111,7 @@ pub tick_is : (script : Script) (phase : Phase) (way : Way) (h : History) → Ke
 tick_is script phase way h k =
     ap (λ (p : Params). tick_built p way.lane way.tx.builder.frames (past way.lane h)) k.params_are ∙ ap (λ (fs : List Frame). tick_built script.params way.lane fs (past way.lane h)) k.frames_are
 
-pub tick_does : {T R : Type 0} (shared : Shared) (half : Half T R) (way' : Way) (log' : Log) (answer : Answer) → IsKept shared half
+pub tick_does : {T R : Type 0} (shared : Shared) (half : Half T R) (way' : Way) (log' : Log) (answer : Answer) → HalfKeeps shared half
     → Adds shared.journal log' (lines_in (tick_built half.path.tx.params half.path.lane half.path.tx.builder.frames (past half.path.lane shared.journal.history)))
     → answer ≡ answer_in (tick_built half.path.tx.params half.path.lane half.path.tx.builder.frames (past half.path.lane shared.journal.history))
     → Stands way' (past way'.lane log'.history)

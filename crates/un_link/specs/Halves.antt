@@ -15,7 +15,7 @@ use Rattle.un_link.specs.declared.shared.Shared.{Shared}
 use Rattle.un_link.specs.Keeps.{AreRead, Keeps}
 
 -- the half keeps what the lane's lines say, and the shared phase and number of controls are the history's
-pub record IsKept {T R : Type 0} (shared : Shared) (half : Half T R) : Type 0 where
+pub record HalfKeeps {T R : Type 0} (shared : Shared) (half : Half T R) : Type 0 where
   pub in_range : AreInRange shared.script.params
   pub keeps : Keeps shared.script shared.phase half.path (past half.path.lane shared.journal.history)
   pub read_is : AreRead half.read (past half.path.lane shared.journal.history)
@@ -24,7 +24,7 @@ pub record IsKept {T R : Type 0} (shared : Shared) (half : Half T R) : Type 0 wh
 
 -- and there is room for the lines of this work
 pub record Ready {T R : Type 0} (w : Work) (shared : Shared) (half : Half T R) : Type 0 where
-  pub kept : IsKept shared half
+  pub kept : HalfKeeps shared half
   pub room : HasRoom shared.journal (lines_in (work shared.script shared.journal.history w))
 
 -- the half writes the lines of a work and keeps what it kept; of what is shared only the history changes

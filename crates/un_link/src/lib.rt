@@ -15,4 +15,4 @@ mod shared;
 pub use ends::Link;
 pub use flight::{LinkCarried, LinkFlight};
 pub use homes::Homes;
-pub use link::{LinkOver, ROUND};
+pub use link::ROUND;

@@ -48,7 +48,7 @@ impl<A: TxEnd + Drop, B: RxEnd + Drop, C: TxEnd + Drop, D: RxEnd + Drop> Model
 
 impl<A: TxEnd + Drop, B: RxEnd + Drop, C: TxEnd + Drop, D: RxEnd + Drop> LinkOver<A, B, C, D> {
     /// A link in phase `Up` with an empty history and every request home, over four fresh ends with the script's parameters, which agree. The error is want of memory; no later call takes any.
-    pub fn make_over(
+    pub(crate) fn make_over(
         alloc: Global,
         script: Script,
         out_tx: A,

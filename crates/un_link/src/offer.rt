@@ -3,7 +3,7 @@
 ghost use Rattle.std.specs.Prelude.{◌≡◌, not, is_some, slice_get};
 ghost use Rattle.un_journal.specs.Script.{frames_of};
 ghost use Rattle.un_journal.specs.Step.{Offer, is_still, offers_still, work};
-ghost use Rattle.un_link.specs.Halves.{Does, IsKept, Ready};
+ghost use Rattle.un_link.specs.Halves.{Does, HalfKeeps, Ready};
 ghost use Rattle.un_link.specs.Keeps.{cursor_at};
 
 use crate::half::Half;
@@ -59,7 +59,7 @@ impl<T: TxEnd + Drop, R: RxEnd + Drop> Half<T, R> {
     /// Whether no offer of the lane's four senders would take or refuse a frame.
     pub(crate) fn offers_nothing(&self, shared: &Shared, lane: Lane) -> bool
         requires lane { self.now.path.lane ≡ lane }
-        requires kept { IsKept shared.now self.now }
+        requires kept { HalfKeeps shared.now self.now }
         ensures { result ≡ offers_still shared.now.script shared.now.journal.history lane }
     {
         self.stays(shared, lane, 0)
@@ -71,7 +71,7 @@ impl<T: TxEnd + Drop, R: RxEnd + Drop> Half<T, R> {
     /// Whether an offer of the sender would neither take nor refuse a frame.
     fn stays(&self, shared: &Shared, lane: Lane, sender: u32) -> bool
         requires lane { self.now.path.lane ≡ lane }
-        requires kept { IsKept shared.now self.now }
+        requires kept { HalfKeeps shared.now self.now }
         ensures { result ≡ is_still (work shared.now.script shared.now.journal.history (Offer lane sender)) }
     {
         let script = &shared.script;

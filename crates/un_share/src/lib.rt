@@ -1,7 +1,7 @@
 //! The eleven workers of a link, which share one turn over any machine that has a link's actions.
 #![tactic(auto)]
 
-mod crew;
+mod eleven;
 mod gate;
 mod holds;
 mod roles;
@@ -12,5 +12,5 @@ mod shift;
 mod tests;
 mod workers;
 
-pub use crew::run_workers;
+pub use eleven::run_workers;
 pub use gate::{Gate, OpenGate};

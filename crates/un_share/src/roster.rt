@@ -49,7 +49,7 @@ pub(crate) enum Change {
     },
     /// It doesn't wait any more.
     Wake,
-    /// It ends, since the machine is finished or its patience is at an end. All others are to look for themselves.
+    /// It ends, since the machine is finished or it gives up. All others are to look for themselves.
     Leave,
 }
 

@@ -14,9 +14,9 @@ use un_journal::{Action, Answer, Got, Machine};
 use un_turn::{Seat, Turn};
 
 /// The holds in a row that didn't answer `Did` after which a worker ends.
-const PATIENCE: u64 = 65536;
+const IDLE_HOLDS: u64 = 65536;
 
-/// A worker's turns, until the machine is finished or its patience is at an end. It knows no flight when it ends.
+/// A worker's turns, until the machine is finished or it gives up. It knows no flight when it ends.
 pub(crate) fn run<R: Wait, M: Machine<Act = Action, Ans = Answer>, G: Gate>(
     rt: &R,
     turn: &Turn<M>,
@@ -74,7 +74,7 @@ fn perform<R: Wait, M: Machine<Act = Action, Ans = Answer>, G: Gate>(
     let mut seat = seat;
     let mut idle = 0;
     for count in 0..u64::MAX {
-        if idle >= PATIENCE {
+        if idle >= IDLE_HOLDS {
             return seat;
         }
         gate.before(rt, actor, count);
@@ -115,7 +115,7 @@ fn complete<R: Wait, M: Machine<Act = Action, Ans = Answer>, G: Gate>(
     let mut idle = 0;
     let mut count: u64 = 0;
     for round in 0..u64::MAX {
-        if idle >= PATIENCE {
+        if idle >= IDLE_HOLDS {
             return seat;
         }
         gate.before(rt, actor, count);

@@ -12,7 +12,7 @@ use Rattle.un_setup.specs.declared.agreement.Agreed.{Agreed}
 use Rattle.un_wire.proofs.CursorLemmas.{readings_are_one}
 use Rattle.usbnet_run.specs.Command.{ComesExactly, DecodeIsComplete, IsComplete, IsDrained, IsUnagreed, RefusalsAreExact, TooLargeExactly, answers_decode, answers_serial, bad_words, ends}
 use Rattle.usbnet_run.specs.Decode.{Decodes, IsOutside, bad_transfer, decoded, decoded_text}
-use Rattle.usbnet_run.specs.Reading.{IsWhole, MOST_INPUT, OfInput, StopsReading, no_memory, read_fault, reads, stops, too_large}
+use Rattle.usbnet_run.specs.Reading.{IsReadToEnd, MOST_INPUT, OfInput, StopsReading, no_memory, read_fault, reads, stops, too_large}
 use Rattle.usbnet_run.specs.Refusals.{Answer, Prints, done, refusal_status, refused, stopped}
 use Rattle.usbnet_run.specs.Runs.{HasPrinted, IsNoScript, IsRun, Runs, not_a_script, not_agreed, printed, refuses, wants_memory}
 use Rattle.usbnet_run.specs.Words.{command_of}
@@ -134,7 +134,7 @@ comes_as : (given : List ℕ) (status mine : ℕ) (IsDue IsOther : Type 0) → (
 comes_as given status mine IsDue IsOther f g e = record { only = λ s. f (e.only s); always = λ few due c. e.always few (g due) c }
 
 -- the input was read whole, and so isn't too large
-fits : (given : List ℕ) (left : Option (List ℕ)) (status : ℕ) → IsWhole given left → (status ≡ 7 → ⊥) → TooLargeExactly given status
+fits : (given : List ℕ) (left : Option (List ℕ)) (status : ℕ) → IsReadToEnd given left → (status ≡ 7 → ⊥) → TooLargeExactly given status
 fits given left status whole other = record { only = λ e. absurd (other e); always = λ big. let few = whole.1 in absurd (omega (arith, few, big)) }
 
 -- what is due of a command over its input
@@ -167,7 +167,7 @@ module _ (given : List ℕ) (left : Option (List ℕ)) (IsScript IsSetup IsTrans
   }
 
   -- the output was written, or a write of it failed
-  output_exact : (status : ℕ) → status ≤ 3 → IsWhole given left → (IsScript → ⊥) → (IsSetup → ⊥) → (IsTransfer → ⊥) → InputExactly given status IsScript IsSetup IsTransfer
+  output_exact : (status : ℕ) → status ≤ 3 → IsReadToEnd given left → (IsScript → ⊥) → (IsSetup → ⊥) → (IsTransfer → ⊥) → InputExactly given status IsScript IsSetup IsTransfer
   output_exact status small whole a b d = record {
     not_words = λ e. omega (arith, small, e);
     of_script = never given status 5 IsScript (λ e. omega (arith, small, e)) a;

@@ -10,8 +10,8 @@ abbrev pub MOST_INPUT : ℕ
 MOST_INPUT = 16777216
 
 -- the source gave its end, and what it gave in this call is no more than the most
-abbrev pub IsWhole : List ℕ → Option (List ℕ) → Type 0
-IsWhole given left = IsAtEnd left × (length given ≤ MOST_INPUT)
+abbrev pub IsReadToEnd : List ℕ → Option (List ℕ) → Type 0
+IsReadToEnd given left = IsAtEnd left × (length given ≤ MOST_INPUT)
 
 -- memory ran out; a read failed; there was more than the most
 pub data StopsReading (given : List ℕ) : Refusal → Type 0 where
@@ -22,4 +22,4 @@ pub data StopsReading (given : List ℕ) : Refusal → Type 0 where
 -- the answer of a command over its input: one of these, or an answer to the whole of it
 pub data OfInput (Answers : List ℕ → Answer → Type 0) (given : List ℕ) (left : Option (List ℕ)) : Answer → Type 0 where
   stops : (refusal : Refusal) → StopsReading given refusal → OfInput Answers given left (Err refusal)
-  reads : (answer : Answer) → IsWhole given left → Answers given answer → OfInput Answers given left answer
+  reads : (answer : Answer) → IsReadToEnd given left → Answers given answer → OfInput Answers given left answer

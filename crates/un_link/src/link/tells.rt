@@ -29,11 +29,13 @@ impl<A: TxEnd + Drop, B: RxEnd + Drop, C: TxEnd + Drop, D: RxEnd + Drop> LinkOve
     }
 
     /// Lends the history. It is legal, and at every moment, that is after each of its steps, the laws hold: each accepted datagram is in exactly one place; what was given rises strictly and is unchanged; each
-    /// loss has its cause; and each `settled` line found every request home, as its four numbers say.
+    /// loss has its cause; and each `settled` line found every request home, as its four numbers say. Of the link itself each request of each pool is in exactly one place, and as many are in all places together as the
+    /// pool has.
     pub fn journal(&self) -> &Journal
         ensures log { result.now ≡ self.now.log }
         ensures legal { Legal self.now.script self.now.log.history }
         ensures moments { AtEveryMoment self.now.script self.now.log.history }
+        ensures requests { KeepsRequests self.now.out × KeepsRequests self.now.inward }
     {
         &self.shared.journal
     }
@@ -48,14 +50,6 @@ impl<A: TxEnd + Drop, B: RxEnd + Drop, C: TxEnd + Drop, D: RxEnd + Drop> LinkOve
     /// What holds of each link: its history is legal, and all that it keeps is what the history says.
     pub fn holds(&self)
         ensures { Holds self.now }
-    {
-        let _ = &self.shared;
-    }
-
-    /// Each request of each pool is in exactly one place, and as many are in all places together as the pool has.
-    pub fn keeps_requests(&self)
-        ensures out { KeepsRequests self.now.out }
-        ensures inward { KeepsRequests self.now.inward }
     {
         let _ = &self.shared;
     }

@@ -22,8 +22,8 @@ returns-then-fits c = λ claim e.
     let u : UnderWay a = under_way a claim was c.self.invariant in
     let fits : frame_fits a.block.params (map length (held_in a).frames) (length c.args.frame.now) ≡ true =
     ap (λ (fs : List (List ℕ)). frame_fits a.block.params (map length fs) (length c.args.frame.now)) u.frames_are ∙ sym c.fits.ensures ∙ c.if-fits.true in
-    rw (← c.self.view_is) (added_settled (held_in a) _ c.settle.new.self claim c.args.frame.now c.args.number c.args.serial u.packed (λ some. fits) next
-    (appended a c.append.new.self claim c.args.frame.now c.args.number was u c.append.ensures next) c.settle.result c.settle.ensures)
+    rw (← c.self.view_is) (added_settled (held_in a) _ c.close_if_full.new.self claim c.args.frame.now c.args.number c.args.serial u.packed (λ some. fits) next
+    (appended a c.append.new.self claim c.args.frame.now c.args.number was u c.append.ensures next) c.close_if_full.result c.close_if_full.ensures)
 
 pub refill-requires : goal.refill-requires
 refill-requires c =

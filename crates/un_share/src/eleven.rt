@@ -15,7 +15,7 @@ use un_turn::{Seat, Turn};
 
 /// A turn as the workers share it, by what its seats have seen and counted. A closure that is sent to a thread holds the turn and a
 /// seat through this bound, since it can't hold both with the machine's type in sight.
-pub trait Shop<S> {
+pub trait SharedTurn<S> {
     ghost use Rattle.std.specs.Prelude.{◌≡◌, ◌<◌, List, Bool, []};
     ghost use Rattle.un_journal.specs.History.{History};
     ghost use Rattle.un_turn.specs.declared.view.View.{View};
@@ -28,7 +28,7 @@ pub trait Shop<S> {
 
     ghost is_finished: { S → History → Bool };
 
-    // The place is one of this shop.
+    // The place is one of this turn.
     ghost is_here: { Self → Self.Place → Type 0 };
 
     ghost view: { Self.Place → View S };
@@ -63,7 +63,7 @@ pub trait Shop<S> {
         ensures worked { Worked is_finished (view place) (view result) 65536 };
 }
 
-impl<M: Machine<Act = Action, Ans = Answer>> Shop<M::Script> for Turn<M> {
+impl<M: Machine<Act = Action, Ans = Answer>> SharedTurn<M::Script> for Turn<M> {
     type Place = Seat<M>;
 
     ghost is_finished = { M.is_finished };
@@ -93,39 +93,38 @@ impl<M: Machine<Act = Action, Ans = Answer>> Shop<M::Script> for Turn<M> {
 }
 
 // The workers from an actor on: the others in a thread of their own, beside this one.
-fn crew<R: Threads + Wait + Sync, S, T: Shop<S, Place = P> + Sync, P: Send + Drop, G: Gate + Sync>(
-    rt: &R,
-    shop: &T,
-    place: P,
-    gate: &G,
-    rota: &Rota,
-    actor: u32,
-) -> P
-    requires here { T.is_here shop.now place }
+fn run_from<
+    R: Threads + Wait + Sync,
+    S,
+    T: SharedTurn<S, Place = P> + Sync,
+    P: Send + Drop,
+    G: Gate + Sync,
+>(rt: &R, turn: &T, place: P, gate: &G, rota: &Rota, actor: u32) -> P
+    requires here { T.is_here turn.now place }
     requires none_known { (T.view place).known ≡ [] }
     requires actor { actor ≤ 10 }
     requires shares { 11 ≤ (T.view place).shares + actor }
-    ensures here { T.is_here shop.now result }
+    ensures here { T.is_here turn.now result }
     ensures worked { Worked T.is_finished (T.view place) (T.view result) (65536 * (11 - actor)) }
 {
     if actor >= LAST_ACTOR {
-        return shop.work(rt, place, gate, rota, actor);
+        return turn.work(rt, place, gate, rota, actor);
     }
-    let (others, mine) = shop.split(place);
+    let (others, mine) = turn.split(place);
     let (others, mine) = join(
         rt,
         move || -> P
-            requires { IsSync R.row × IsSync T.row × IsSend P.row × IsSync G.row × T.is_here shop.now others × ((T.view others).known ≡ []) × (actor < 10) × (10 ≤ (T.view others).shares + actor) }
-            ensures here { T.is_here shop.entry.now result }
+            requires { IsSync R.row × IsSync T.row × IsSend P.row × IsSync G.row × T.is_here turn.now others × ((T.view others).known ≡ []) × (actor < 10) × (10 ≤ (T.view others).shares + actor) }
+            ensures here { T.is_here turn.entry.now result }
             ensures worked { Worked T.is_finished (T.view others) (T.view result) (65536 * (10 - actor)) }
-        { crew(rt, shop, others, gate, rota, actor + 1) },
+        { run_from(rt, turn, others, gate, rota, actor + 1) },
         move || -> P
-            requires { T.is_here shop.now mine × ((T.view mine).known ≡ []) }
-            ensures here { T.is_here shop.entry.now result }
+            requires { T.is_here turn.now mine × ((T.view mine).known ≡ []) }
+            ensures here { T.is_here turn.entry.now result }
             ensures worked { Worked T.is_finished (T.view mine) (T.view result) 65536 }
-        { shop.work(rt, mine, gate, rota, actor) },
+        { turn.work(rt, mine, gate, rota, actor) },
     );
-    shop.join(others, mine)
+    turn.join(others, mine)
 }
 
 /// Runs the eleven workers, each with a seat of its own and in a thread of its own (where the system has none to give, another worker's
@@ -146,5 +145,5 @@ pub fn run_workers<
     ensures worked { Worked M.is_finished seat.view result.view 720896 }
 {
     let rota = Rota::new();
-    crew(rt, turn, seat, gate, &rota, 0)
+    run_from(rt, turn, seat, gate, &rota, 0)
 }
