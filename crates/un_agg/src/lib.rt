@@ -2,6 +2,13 @@
 //!
 //! A class that packs one frame into a transfer makes it at once. For blocks the host's builder claims a request of the lane's pool and builds in it, and keeps a frame that didn't fit for the next block;
 //! the gadget's builds in a request of its own, and its code copies the closed block once (no clause counts copies). Both follow the cut law (`closed_span` of un_frame), and write through `Wire` alone.
+//!
+//! ```text
+//! let mut builder = HostAgg::make(alloc, Codec::make(alloc, &params)?, params.datagrams)?;
+//! builder.offer(&mut pool, first, 0, 0);      // Kept: a block is open
+//! builder.offer(&mut pool, second, 1, 0);     // Kept, or Made with the block that `second` didn't fit into
+//! builder.tick(&mut pool, 0);                 // Waited three times, and then Made
+//! ```
 #![tactic(auto)]
 
 mod block;

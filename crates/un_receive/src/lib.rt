@@ -1,4 +1,17 @@
-//! The receiving end of a lane, which the host and the gadget share.
+//! The receiving end of a lane, which the host and the gadget share: what differs is the lane that it is on.
+//!
+//! A request goes out empty and arrives with a transfer, whose datagrams are lent one by one where they stand:
+//!
+//! ```text
+//! let mut end = LaneRx::<Inward>::make(alloc, &params)?;
+//! let empty = end.refill();             // to the endpoint, to be posted
+//! end.arrive(request);                  // a flight has landed in it
+//! let serial = end.rx_done();           // the first arrived one is current now
+//! while let Some((number, datagram)) = end.lend() {
+//!     ..
+//!     end.advance();                    // after the last datagram the request is home
+//! }
+//! ```
 #![tactic(auto)]
 
 mod lane;

@@ -1,4 +1,17 @@
-//! The transmitting end of a lane, which the host and the gadget share.
+//! The transmitting end of a lane, which the host and the gadget share: what differs is the builder.
+//!
+//! A frame is offered with its number and the serial that its transfer would get; a request that is made goes out, and comes back to be finished and brought home:
+//!
+//! ```text
+//! let mut end = LaneTx::<HostAgg>::make(alloc, &params)?;
+//! match end.offer(frame, number, serial) {
+//!     Built::Busy => ..                 // building needs a request, and none is home
+//!     Built::Kept => ..                 // it waits in an open block: tick() lets it wait, or closes it
+//!     Built::Made(request) => ..        // to the endpoint, or defer(request) while the link sleeps
+//! }
+//! end.finish(request);                  // the bus is done with it
+//! let serial = end.tx_done();           // and it is home
+//! ```
 #![tactic(auto)]
 
 #[cfg(test)]
