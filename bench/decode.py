@@ -4,6 +4,8 @@
 Needs the proved build (./usbnet --build) and coreutils' basenc and cat. Prints, for each transfer, its size, the best of five times
 of the program, of the dump and of the copy, and the program's peak memory. What the program prints is compared with the text that
 this script makes of the same frames.
+
+With the path of another build as its argument it times the two builds by turns, as bench/serial.py does.
 """
 import filecmp
 import multiprocessing
@@ -12,7 +14,7 @@ import struct
 import sys
 import tempfile
 
-from serial import BINARY, HEADER, best
+from serial import BINARY, HEADER, best, compare
 
 MOST = 16_777_216
 PAIRS = 8188  # of one table of 65,528 bytes, but for its last
@@ -64,24 +66,32 @@ def write_files(name, length, transfer, wanted):
 CLASSES = {"ncm32": (ncm32, 8), "eem": (eem, 6)}
 
 
+def alone(name, transfer, wanted, taken):
+    """This build's time and peak memory, and the times of the dump and the copy."""
+    spent, peak = best([BINARY, "decode", name], transfer, taken)
+    if not filecmp.cmp(taken, wanted, shallow=False):
+        sys.exit(f"another text of {name}")
+    dump, _ = best(["basenc", "--base16", "-w0"], transfer, taken)
+    copy, _ = best(["cat"], transfer, taken)
+    return f"decode {spent * 1000:.0f} ms, {peak / 1024:.0f} MB; hex dump {dump * 1000:.0f} ms; copy {copy * 1000:.0f} ms"
+
+
 def main():
     if not os.access(BINARY, os.X_OK):
         sys.exit("no proved build: run ./usbnet --build first")
     with tempfile.TemporaryDirectory() as room:
-        transfer, wanted, taken = (os.path.join(room, name) for name in ("transfer", "wanted", "taken"))
+        transfer, wanted, taken, other = (os.path.join(room, name) for name in ("transfer", "wanted", "taken", "other"))
         for name in CLASSES:
             for length in (1514, 60):
                 # in a process of its own: a child's peak memory begins with its parent's
                 maker = multiprocessing.Process(target=write_files, args=(name, length, transfer, wanted))
                 maker.start()
                 maker.join()
-                size = os.path.getsize(transfer)
-                spent, peak = best([BINARY, "decode", name], transfer, taken)
-                if not filecmp.cmp(taken, wanted, shallow=False):
-                    sys.exit(f"another text of {name}")
-                dump, _ = best(["basenc", "--base16", "-w0"], transfer, taken)
-                copy, _ = best(["cat"], transfer, taken)
-                print(f"{name}, frames of {length:,} bytes: {size:,} bytes in; decode {spent * 1000:.0f} ms, {peak / 1024:.0f} MB; hex dump {dump * 1000:.0f} ms; copy {copy * 1000:.0f} ms")
+                if len(sys.argv) > 1:
+                    told = compare(["decode", name], (sys.argv[1], BINARY), transfer, (other, taken))
+                else:
+                    told = alone(name, transfer, wanted, taken)
+                print(f"{name}, frames of {length:,} bytes, {os.path.getsize(transfer):,} bytes in: {told}", flush=True)
 
 
 if __name__ == "__main__":
