@@ -4,12 +4,12 @@ ghost use Rattle.std.specs.Prelude.{◌≡◌, ◌||◌, [], IfOk};
 ghost use Rattle.un_frame.specs.declared.kinds.Phase.TheVariants.{Up};
 ghost use Rattle.un_journal.specs.Bytes.{byte_bound};
 ghost use Rattle.un_journal.specs.Drain.{line_bound};
-ghost use Rattle.un_journal.specs.Lookup.{after_order, after_settled, is_asleep, is_leaving, is_stopping, works};
+ghost use Rattle.un_journal.specs.Lookup.{is_asleep, is_leaving, is_stopping, works};
 
 use crate::room::{bytes_of, lines_of};
 use std::alloc::{AllocError, Global};
 use un_frame::Phase;
-use un_journal::{Control, Journal};
+use un_journal::Journal;
 use un_script::Script;
 
 /// The script, the one history of both lanes, the phase, and how many controls are done.
@@ -60,28 +60,4 @@ pub(crate) fn stops(phase: Phase) -> bool
     ensures { result ≡ (is_stopping phase || is_leaving phase) }
 {
     matches!(phase, Phase::Stopping | Phase::Leaving)
-}
-
-/// The phase that a control leaves.
-pub(crate) fn phase_after(control: Control, phase: Phase) -> Phase
-    ensures { result ≡ after_order control phase }
-{
-    match control {
-        Control::Suspend => Phase::Asleep,
-        Control::Resume | Control::Up => Phase::Up,
-        Control::Down => Phase::Stopping,
-        Control::Unplug => Phase::Leaving,
-        Control::Unlink { .. } => phase,
-    }
-}
-
-/// The phase after a stop is settled.
-pub(crate) fn phase_settled(phase: Phase) -> Phase
-    ensures { result ≡ after_settled phase }
-{
-    match phase {
-        Phase::Stopping => Phase::Down,
-        Phase::Leaving => Phase::Away,
-        other => other,
-    }
 }

@@ -1,4 +1,4 @@
 pub mod Parts
-pub mod Lots
+pub mod LaneCounts
 pub mod Feeds
 pub mod Examples

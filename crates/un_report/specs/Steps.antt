@@ -10,7 +10,7 @@ use Rattle.un_journal.specs.History.{History, past, made, more_if, ends}
 use Rattle.un_journal.specs.Lookup.{after_control, after_settled}
 use Rattle.un_report.specs.declared.tally.Consumed.{Consumed}
 use Rattle.un_report.specs.declared.tally.Tally.{Tally}
-use Rattle.un_report.specs.declared.lot.Lot.{Lot}
+use Rattle.un_report.specs.declared.lane_count.LaneCount.{LaneCount}
 use Rattle.un_report.specs.Counts.{is_short, is_long, is_filtered, counts}
 
 -- a line that ends a transfer
@@ -63,11 +63,11 @@ made_span lane line = None
 
 -- What is known of a lane after i lines of a history: its counts, and a place up to which it has made just the transfers that
 -- have ended. Transfers end in the order of their serials, so the next line that makes one is that of the next that ends.
-pub record IsLot (packet : ℕ) (lane : Lane) (h : History) (i : ℕ) (lot : Lot) : Type 0 where
-  pub counted : lot.tally ≡ counts packet (past lane (take i h))
-  pub within : IsWithin i lot.tally
-  pub order : lot.next ≤ i
-  pub ended : made (past lane (take lot.next h)) ≡ ends (past lane (take i h))
+pub record IsLaneCount (packet : ℕ) (lane : Lane) (h : History) (i : ℕ) (before : LaneCount) : Type 0 where
+  pub counted : before.tally ≡ counts packet (past lane (take i h))
+  pub within : IsWithin i before.tally
+  pub order : before.next ≤ i
+  pub ended : made (past lane (take before.next h)) ≡ ends (past lane (take i h))
 
 -- the phase after one line more
 abbrev pub phase_after_line : List Due → Line → Phase → Phase

@@ -3,8 +3,8 @@
 #![tactic(auto)]
 
 mod frames;
+mod lane_count;
 mod lines;
-mod lot;
 mod setup;
 mod survey;
 mod tally;

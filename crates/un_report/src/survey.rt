@@ -3,17 +3,17 @@
 ghost use Rattle.std.specs.Prelude.{◌≡◌, ◌+◌, ◌-◌, ◌<◌, ◌≤◌, length, slice_get};
 ghost use Rattle.un_frame.specs.declared.params.Lane.TheVariants.{Outward, Inward};
 ghost use Rattle.un_journal.specs.History.{past};
-ghost use Rattle.un_journal.specs.Lookup.{phase_of, after_control, after_order, after_settled};
+ghost use Rattle.un_journal.specs.Lookup.{phase_of, after_control};
 ghost use Rattle.un_journal.specs.Fits.{Legal};
 ghost use Rattle.un_journal.specs.Script.{frames_of};
 ghost use Rattle.un_report.specs.Counts.{counts, unread, fed};
 ghost use Rattle.un_report.specs.Steps.{phase_after_line};
 
-use crate::lot::{count, first};
+use crate::lane_count::{count, first};
 use crate::tally::{Consumed, Tally};
 use un_frame::{Lane, Phase};
-use un_journal::{Control, Due, Journal, Line};
-use un_script::Script;
+use un_journal::{Due, Journal, Line};
+use un_script::{Script, phase_after, phase_settled};
 
 /// The counts of both lanes, and the phase at the end.
 #[derive(Clone, Copy, Debug)]
@@ -23,36 +23,13 @@ pub struct Survey {
     pub phase: Phase,
 }
 
-/// The phase that a control leaves.
-fn after_order(control: Control, phase: Phase) -> Phase
-    ensures { result ≡ Rattle.un_journal.specs.Lookup.after_order control phase }
-{
-    match control {
-        Control::Suspend => Phase::Asleep,
-        Control::Resume | Control::Up => Phase::Up,
-        Control::Down => Phase::Stopping,
-        Control::Unplug => Phase::Leaving,
-        Control::Unlink { .. } => phase,
-    }
-}
-
+/// The phase after a control of the script, where it has one.
 fn after_control(due: Option<Due>, phase: Phase) -> Phase
     ensures { result ≡ Rattle.un_journal.specs.Lookup.after_control due phase }
 {
     match due {
-        Some(due) => after_order(due.control, phase),
+        Some(due) => phase_after(due.control, phase),
         None => phase,
-    }
-}
-
-/// The phase that a settled stop leaves.
-fn after_settled(phase: Phase) -> Phase
-    ensures { result ≡ Rattle.un_journal.specs.Lookup.after_settled phase }
-{
-    match phase {
-        Phase::Stopping => Phase::Down,
-        Phase::Leaving => Phase::Away,
-        _ => phase,
     }
 }
 
@@ -62,7 +39,7 @@ fn after_line(script: &Script, phase: Phase, line: Line) -> Phase
 {
     match line {
         Line::Control { index, .. } => after_control(script.control(index), phase),
-        Line::Settled { .. } => after_settled(phase),
+        Line::Settled { .. } => phase_settled(phase),
         _ => phase,
     }
 }

@@ -2,7 +2,7 @@ pub mod Cuts
 pub mod Decoded
 pub mod Heard
 pub mod Ranges
-pub mod Standings
+pub mod States
 pub mod Readiness
 pub mod LawLemmas
 pub mod Loads

@@ -13,14 +13,14 @@ use Rattle.un_journal.specs.declared.controls.Due.{Due}
 use Rattle.un_journal.specs.declared.controls.Planned.{Planned}
 use Rattle.un_journal.specs.Script.{Script, Frame, Feeds, planned, planned_in, frames_in_all, frame_count}
 use Rattle.un_script.specs.Table.{is_want, is_planned_serial, MOST_FRAMES, MOST_CONTROLS, MOST_FAULTS}
-use Rattle.un_script.specs.Parts.{no_frames, HasBytes, FeedsHaveBytes, empty_script, frame_added, with_frame, may_come, standing_from}
+use Rattle.un_script.specs.Parts.{no_frames, HasBytes, FeedsHaveBytes, empty_script, frame_added, with_frame, may_come, state_from}
 use Rattle.un_script.specs.Ready.{IsReady, WaitsInRange, SerialInRange, is_planned_for, faults_for}
 
 nobody_ready : FeedsHaveBytes no_frames
 nobody_ready = let none : All HasBytes [] = All-nil HasBytes in record { first = none; second = none; third = none; fourth = none }
 
 pub empty_ready : (params : Params) → AreInRange params → IsReady (empty_script params)
-unfolding standing_from
+unfolding state_from
 empty_ready params h = record { in_range = h; outward = nobody_ready; inward = nobody_ready; few = omega arith; controls = omega arith; wants = All-nil WaitsInRange; orderly = refl; faults = omega arith; serials = All-nil SerialInRange; once = λ lane serial. omega arith }
 
 pub params_ready : (script : Script) (params : Params) → IsReady script → AreInRange params → IsReady (record script { params = params })

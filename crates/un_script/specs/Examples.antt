@@ -9,7 +9,7 @@ use Rattle.un_journal.specs.declared.controls.Control.TheVariants.{Unlink}
 use Rattle.un_script.specs.declared.why.Why.TheVariants.{Word, Control}
 use Rattle.un_script.specs.Words.{lines_of}
 use Rattle.un_script.specs.Table.{defaults}
-use Rattle.un_script.specs.Parts.{standing_from, empty_script}
+use Rattle.un_script.specs.Parts.{state_from, empty_script}
 use Rattle.un_script.specs.Reading.{script_of, lines_read, line_read}
 
 pub nothing : script_of [] ≡ Err (1, Word)
@@ -17,7 +17,7 @@ unfolding script_of lines_read lines_of
 nothing = refl
 
 pub too_early : script_of (codes "class ecm\nat out 0 resume\n") ≡ Err (2, Control)
-unfolding script_of lines_read line_read lines_of words_in number_from standing_from
+unfolding script_of lines_read line_read lines_of words_in number_from state_from
 too_early = refl
 
 pub small : script_of (codes "# one\n\nclass ncm16\nrequests 1 2 3 4\nout 0 0aFF\nat in 7 unlink out\nfault out 3 halt") ≡ Ok (record (empty_script (record (defaults Ncm16) { tx_out = 1; rx_out = 2; tx_in = 3; rx_in = 4 })) {
@@ -25,5 +25,5 @@ pub small : script_of (codes "# one\n\nclass ncm16\nrequests 1 2 3 4\nout 0 0aFF
   controls = record { lane = Inward; want = 7; control = Unlink Outward } ∷ [];
   faults = record { lane = Outward; serial = 3; kind = Halt } ∷ [];
 })
-unfolding script_of lines_read line_read lines_of words_in number_from standing_from decode_pairs
+unfolding script_of lines_read line_read lines_of words_in number_from state_from decode_pairs
 small = refl

@@ -7,8 +7,8 @@ use Rattle.un_journal.specs.declared.controls.Control.{Control}
 use Rattle.un_journal.specs.declared.controls.Control.TheVariants.{Suspend, Resume, Down, Up, Unlink, Unplug}
 use Rattle.un_journal.specs.declared.controls.Due.{Due}
 use Rattle.un_journal.specs.Script.{Frame, Feeds, Script}
-use Rattle.un_script.specs.declared.standing.Standing.{Standing}
-use Rattle.un_script.specs.declared.standing.Standing.TheVariants.{AtWork, AtRest, Off, Gone}
+use Rattle.un_script.specs.declared.state.LinkState.{LinkState}
+use Rattle.un_script.specs.declared.state.LinkState.TheVariants.{Awake, Suspended, Stopped, Unplugged}
 
 abbrev pub no_frames : Feeds
 no_frames = record { first = []; second = []; third = []; fourth = [] }
@@ -42,32 +42,32 @@ pub record FeedsHaveBytes (feeds : Feeds) : Type 0 where
 -- CONTROLS
 
 -- how a link stands after a control, where it may come
-abbrev pub stands_after : Control → Standing → Option Standing
-stands_after Suspend AtWork = Some AtRest
-stands_after Resume AtRest = Some AtWork
-stands_after Down AtWork = Some Off
-stands_after Down AtRest = Some Off
-stands_after Up Off = Some AtWork
-stands_after (Unlink lane) AtWork = Some AtWork
-stands_after (Unlink lane) AtRest = Some AtRest
-stands_after Unplug AtWork = Some Gone
-stands_after Unplug AtRest = Some Gone
-stands_after Unplug Off = Some Gone
-stands_after control standing = None
+abbrev pub state_after : Control → LinkState → Option LinkState
+state_after Suspend Awake = Some Suspended
+state_after Resume Suspended = Some Awake
+state_after Down Awake = Some Stopped
+state_after Down Suspended = Some Stopped
+state_after Up Stopped = Some Awake
+state_after (Unlink lane) Awake = Some Awake
+state_after (Unlink lane) Suspended = Some Suspended
+state_after Unplug Awake = Some Unplugged
+state_after Unplug Suspended = Some Unplugged
+state_after Unplug Stopped = Some Unplugged
+state_after control state = None
 
 abbrev pub where_some : {X Y : Type 0} → Option X → (X → Option Y) → Option Y
 where_some (Some x) f = f x
 where_some None f = None
 
 -- one control after another
-unfoldable pub standing_from : Standing → List Due → Option Standing
-standing_from standing [] = Some standing
-standing_from standing (due ∷ dues) = where_some (stands_after due.control standing) (λ next. standing_from next dues)
+unfoldable pub state_from : LinkState → List Due → Option LinkState
+state_from state [] = Some state
+state_from state (due ∷ dues) = where_some (state_after due.control state) (λ next. state_from next dues)
 
 -- how a link stands after these controls, where each may come
-abbrev pub standing_of : List Due → Option Standing
-standing_of dues = standing_from AtWork dues
+abbrev pub state_of : List Due → Option LinkState
+state_of dues = state_from Awake dues
 
 -- the control may come after the earlier ones
 abbrev pub may_come : List Due → Due → Bool
-may_come dues due = is_some (standing_of (dues ++ due ∷ []))
+may_come dues due = is_some (state_of (dues ++ due ∷ []))

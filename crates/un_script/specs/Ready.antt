@@ -7,7 +7,7 @@ use Rattle.un_journal.specs.declared.controls.Due.{Due}
 use Rattle.un_journal.specs.declared.controls.Planned.{Planned}
 use Rattle.un_journal.specs.Script.{Script, frame_count}
 use Rattle.un_script.specs.Table.{MOST_FRAMES, MOST_CONTROLS, MOST_FAULTS, is_want, is_planned_serial}
-use Rattle.un_script.specs.Parts.{FeedsHaveBytes, standing_of}
+use Rattle.un_script.specs.Parts.{FeedsHaveBytes, state_of}
 
 abbrev pub WaitsInRange : Due → Type 0
 WaitsInRange due = IsTrue (is_want due.want)
@@ -31,7 +31,7 @@ pub record IsReady (script : Script) : Type 0 where
   pub few : frame_count script ≤ MOST_FRAMES
   pub controls : length script.controls ≤ MOST_CONTROLS
   pub wants : All WaitsInRange script.controls
-  pub orderly : IsTrue (is_some (standing_of script.controls))
+  pub orderly : IsTrue (is_some (state_of script.controls))
   pub faults : length script.faults ≤ MOST_FAULTS
   pub serials : All SerialInRange script.faults
   pub once : (lane : Lane) (serial : ℕ) → faults_for script.faults lane serial ≤ 1

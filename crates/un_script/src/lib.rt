@@ -8,7 +8,7 @@ mod numbers;
 mod plan;
 mod reader;
 mod script;
-mod standing;
+mod state;
 mod table;
 #[cfg(test)]
 mod tests;
@@ -19,4 +19,5 @@ pub use load::generate;
 pub use numbers::number;
 pub use reader::read;
 pub use script::Script;
+pub use state::{phase_after, phase_settled};
 pub use why::{ScriptError, Why};

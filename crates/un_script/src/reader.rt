@@ -10,7 +10,7 @@ ghost use Rattle.un_script.specs.Reading.{Gives, ReadGives, now_at, class_line, 
 use crate::lines::{first_line, is_skipped, is_spelled};
 use crate::numbers::{byte, number};
 use crate::script::Script;
-use crate::standing::stands_after;
+use crate::state::state_after;
 use crate::table::{
     control_named, defaults, is_allowed, is_filter, is_pool_size, may_follow, parameter_named,
     place_of, unlink_named, with_number,
@@ -196,7 +196,7 @@ fn bytes(alloc: Global, word: &[u8]) -> Result<Vec<u8>, Refused>
 }
 
 /// `at L W CONTROL`
-#[tactic(auto, using(crate::proofs::Standings::standing_more))]
+#[tactic(auto, using(crate::proofs::States::state_more))]
 fn control_line(
     script: &mut Script,
     place: u8,
@@ -224,7 +224,7 @@ fn control_line(
     if script.control_count() >= 256 {
         return refuse(Why::Count);
     }
-    if stands_after(control, script.standing()).is_none() {
+    if state_after(control, script.state()).is_none() {
         return refuse(Why::Control);
     }
     let due = Due {

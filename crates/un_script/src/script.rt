@@ -3,12 +3,12 @@
 ghost use Rattle.std.specs.Prelude.{◌≡◌, ◌<◌, ◌≤◌, ◌∷◌, ◌++◌, [], None, Some, length, OnOk, OnErr, IsTrue, MatchOption, slice_get, unwrap_or};
 ghost use Rattle.un_frame.specs.Params.{AreInRange};
 ghost use Rattle.un_journal.specs.Script.{planned, frames_of, feed_list, frame_count};
-ghost use Rattle.un_script.specs.Parts.{empty_script, no_frames, frame_added, with_frame, standing_of, may_come};
+ghost use Rattle.un_script.specs.Parts.{empty_script, no_frames, frame_added, with_frame, state_of, may_come};
 ghost use Rattle.un_script.specs.Ready.{IsReady};
 ghost use Rattle.un_script.specs.Table.{is_sender, is_want, is_planned_serial, MOST_FRAMES, MOST_CONTROLS, MOST_FAULTS};
 
 use crate::plan::Plan;
-use crate::standing::{Standing, stands_after};
+use crate::state::{LinkState, state_after};
 use std::alloc::{AllocError, Global};
 use std::marker::Model;
 use un_frame::{Bytes, FaultKind, Lane, Params};
@@ -91,7 +91,7 @@ pub struct Script {
     controls: Vec<Due>,
     faults: Plan,
     frames: u32,
-    standing: Standing,
+    state: LinkState,
 }
 
 impl Model for Script {
@@ -101,18 +101,18 @@ impl Model for Script {
     ghost Value = { ScriptData };
 
     ghost use Rattle.un_journal.specs.Script.{frames_in_all};
-    ghost use Rattle.un_script.specs.Parts.{standing_of};
+    ghost use Rattle.un_script.specs.Parts.{state_of};
     ghost use Rattle.un_script.specs.Ready.{IsReady};
 
     ghost view = { λ s. record { params = s.params; outward = s.outward; inward = s.inward; controls = s.controls.items; faults = s.faults } };
 
-    ghost invariant = { λ s. (s.frames ≡ frames_in_all s.outward + frames_in_all s.inward) × (standing_of s.controls.items ≡ Some s.standing)
+    ghost invariant = { λ s. (s.frames ≡ frames_in_all s.outward + frames_in_all s.inward) × (state_of s.controls.items ≡ Some s.state)
         × IsReady (record { params = s.params; outward = s.outward; inward = s.inward; controls = s.controls.items; faults = s.faults }) };
 }
 
 impl Script {
     /// A script with no frames, controls and faults, for parameters in their ranges. It keeps the allocator for those that are added.
-    #[tactic(auto, using(crate::proofs::Readiness::empty_ready), unfolding(crate::specs::Parts::standing_from))]
+    #[tactic(auto, using(crate::proofs::Readiness::empty_ready), unfolding(crate::specs::Parts::state_from))]
     pub fn make(alloc: Global, params: Params) -> Script
         requires { AreInRange params }
         ensures { result ≡ empty_script params }
@@ -124,7 +124,7 @@ impl Script {
             controls: Vec::new(alloc),
             faults: Plan::make(alloc),
             frames: 0,
-            standing: Standing::AtWork,
+            state: LinkState::Awake,
         }
     }
 
@@ -173,10 +173,10 @@ impl Script {
     }
 
     /// How a link stands after the controls.
-    pub(crate) fn standing(&self) -> Standing
-        ensures { standing_of self.now.controls ≡ Some result }
+    pub(crate) fn state(&self) -> LinkState
+        ensures { state_of self.now.controls ≡ Some result }
     {
-        self.standing
+        self.state
     }
 
     /// Adds a frame of at least one byte at the end of the feed of a sender (0 to 3), where there are fewer than 65,536 frames. After
@@ -201,7 +201,7 @@ impl Script {
 
     /// Adds a control behind the others, of which there are fewer than 256 and which it has to be able to follow; it waits for 0 to
     /// 65,536 datagrams. After the error, which is want of memory, the script is unchanged.
-    #[tactic(auto, using(crate::proofs::Standings::standing_more, crate::proofs::Readiness::control_ready))]
+    #[tactic(auto, using(crate::proofs::States::state_more, crate::proofs::Readiness::control_ready))]
     pub fn add_control(&mut self, due: Due) -> Result<(), AllocError>
         requires want { IsTrue (is_want due.want) }
         requires room { length self.old.controls < MOST_CONTROLS }
@@ -209,10 +209,10 @@ impl Script {
         ensures ok { OnOk result (self.new ≡ record self.old { controls = self.old.controls ++ due ∷ [] }) }
         ensures err { OnErr result (self.new ≡ self.old) }
     {
-        let next = stands_after(due.control, self.standing);
+        let next = state_after(due.control, self.state);
         self.controls.push(due)?;
-        if let Some(standing) = next {
-            self.standing = standing;
+        if let Some(state) = next {
+            self.state = state;
         }
         Ok(())
     }

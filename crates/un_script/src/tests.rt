@@ -124,7 +124,7 @@ fn refuses_values(rt: HostRuntime) {
 }
 
 #[test]
-#[tactic(auto, using(crate::proofs::Ranges::defaults_in_range), unfolding(crate::specs::Parts::standing_from))]
+#[tactic(auto, using(crate::proofs::Ranges::defaults_in_range), unfolding(crate::specs::Parts::state_from))]
 fn adds_each_part(rt: HostRuntime) -> Result<(), Fail> {
     let alloc = rt.alloc();
     let mut script = Script::make(alloc, defaults(Class::Ecm));

@@ -1,6 +1,6 @@
 use Rattle.un_frame.specs.declared.params.Lane.TheVariants.{Outward, Inward}
 use Rattle.un_journal.proofs.Steps.{legal_good}
-use Rattle.un_report.proofs.Lots.{phase_step}
+use Rattle.un_report.proofs.LaneCounts.{phase_step}
 use Rattle.un_report.proofs.survey.go_over.Goals as goal
 
 pub count-outward-requires-clause-sound : goal.count-outward-requires-clause-sound

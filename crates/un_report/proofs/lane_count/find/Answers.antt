@@ -1,7 +1,7 @@
 use Rattle.std.proofs.Common.{length, ap, sym, ◌∙◌, arith}
 use Rattle.un_report.specs.Counts.{span_size}
-use Rattle.un_report.proofs.Lots.{found, passed}
-use Rattle.un_report.proofs.lot.find.Goals as goal
+use Rattle.un_report.proofs.LaneCounts.{found, passed}
+use Rattle.un_report.proofs.lane_count.find.Goals as goal
 
 pub returns-in-Some-clause-datagrams : goal.returns-in-Some-clause-datagrams
 returns-in-Some-clause-datagrams c =

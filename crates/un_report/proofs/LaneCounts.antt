@@ -19,9 +19,9 @@ use Rattle.un_journal.proofs.Onto.{onto, newest, past_onto, sound_below}
 use Rattle.un_journal.proofs.Order.{in_order, flight_is, next_is}
 use Rattle.un_journal.proofs.Homes.{flying_made}
 use Rattle.un_report.specs.declared.tally.Tally.{Tally}
-use Rattle.un_report.specs.declared.lot.Lot.{Lot}
+use Rattle.un_report.specs.declared.lane_count.LaneCount.{LaneCount}
 use Rattle.un_report.specs.Counts.{span_size, counts, is_short, is_long, is_filtered}
-use Rattle.un_report.specs.Steps.{is_end, line_counted, end_counted, IsWithin, made_span, IsLot, phase_after_line}
+use Rattle.un_report.specs.Steps.{is_end, line_counted, end_counted, IsWithin, made_span, IsLaneCount, phase_after_line}
 
 -- FRONTS OF A HISTORY
 
@@ -251,8 +251,8 @@ within_end n line datagrams bytes packet t d p w = within_same n t w
 
 -- WHAT IS KNOWN OF A LANE
 
-pub lot_first : (packet : ℕ) (lane : Lane) (h : History) (lot : Lot) → (lot.next ≡ 0) × (lot.tally ≡ counts 512 []) → IsLot packet lane h 0 lot
-lot_first packet lane h lot e = record {
+pub count_first : (packet : ℕ) (lane : Lane) (h : History) (before : LaneCount) → (before.next ≡ 0) × (before.tally ≡ counts 512 []) → IsLaneCount packet lane h 0 before
+count_first packet lane h before e = record {
   counted = e.1;
   within = rw e.1 (omega arith, omega arith, omega arith, omega arith, omega arith, omega arith, omega arith, omega arith, omega arith, omega arith, omega arith, omega arith, omega arith, omega arith);
   order = omega (arith, e.0);
@@ -262,41 +262,41 @@ lot_first packet lane h lot e = record {
 step_is : (lane : Lane) (h : History) (i : ℕ) (line : Line) (bytes : List ℕ) (c : Bool) → concerns lane (line, []) ≡ c → slice_get h i ≡ Some (line, bytes) → past lane (take (i + 1) h) ≡ one_if c (line, bytes) (past lane (take i h))
 step_is lane h i line bytes c is got = past_step lane h i (line, bytes) got ∙ ap (λ b. one_if b (line, bytes) (past lane (take i h))) (concerns_line lane line bytes ∙ is)
 
-pub lot_skips : (packet : ℕ) (lane : Lane) (h : History) (i : ℕ) (lot : Lot) (line : Line) → option_map (λ (e : Entry). e.0) (slice_get h i) ≡ Some line → concerns lane (line, []) ≡ false → IsLot packet lane h i lot → IsLot packet lane h (i + 1) lot
-lot_skips packet lane h i lot line got other w =
+pub count_skips : (packet : ℕ) (lane : Lane) (h : History) (i : ℕ) (before : LaneCount) (line : Line) → option_map (λ (e : Entry). e.0) (slice_get h i) ≡ Some line → concerns lane (line, []) ≡ false → IsLaneCount packet lane h i before → IsLaneCount packet lane h (i + 1) before
+count_skips packet lane h i before line got other w =
     let e = with_bytes (slice_get h i) line got in
     let step = step_is lane h i line e.0 false other e.1 in
-    record { counted = rw step w.counted; within = within_same i lot.tally w.within; order = let o : lot.next ≤ i = w.order in omega arith; ended = rw step w.ended }
+    record { counted = rw step w.counted; within = within_same i before.tally w.within; order = let o : before.next ≤ i = w.order in omega arith; ended = rw step w.ended }
 
-pub lot_counts : (packet : ℕ) (lane : Lane) (h : History) (i next : ℕ) (lot : Lot) (line : Line) (t : Tally) → AreEntries h → option_map (λ (e : Entry). e.0) (slice_get h i) ≡ Some line → concerns lane (line, []) ≡ true → is_end line ≡ false
-    → t ≡ line_counted line lot.tally → next ≡ lot.next → IsLot packet lane h i lot → IsLot packet lane h (i + 1) (record { next = next; tally = t })
-lot_counts packet lane h i next lot line t entries got ours plain told same w =
+pub count_counts : (packet : ℕ) (lane : Lane) (h : History) (i next : ℕ) (before : LaneCount) (line : Line) (t : Tally) → AreEntries h → option_map (λ (e : Entry). e.0) (slice_get h i) ≡ Some line → concerns lane (line, []) ≡ true → is_end line ≡ false
+    → t ≡ line_counted line before.tally → next ≡ before.next → IsLaneCount packet lane h i before → IsLaneCount packet lane h (i + 1) (record { next = next; tally = t })
+count_counts packet lane h i next before line t entries got ours plain told same w =
     let e = with_bytes (slice_get h i) line got in
     let step = step_is lane h i line e.0 true ours e.1 in
     let fits = (entry_at h i (line, e.0) entries e.1).0 in
     record {
       counted = rw step (told ∙ ap (line_counted line) w.counted ∙ sym (counted_line packet line e.0 (past lane (take i h)) plain));
-      within = rw told (within_line i line lot.tally fits w.within);
-      order = let o : lot.next ≤ i = w.order in omega (arith, same);
+      within = rw told (within_line i line before.tally fits w.within);
+      order = let o : before.next ≤ i = w.order in omega (arith, same);
       ended = rw (same, step) (w.ended ∙ sym (endings_line line e.0 (past lane (take i h)) plain));
     }
 
 -- the next transfer that ends is one that was made
-pub lot_next : (packet : ℕ) (lane : Lane) (h : History) (i : ℕ) (lot : Lot) (line : Line) → i < length h → IsSound (past lane h) → option_map (λ (e : Entry). e.0) (slice_get h i) ≡ Some line → concerns lane (line, []) ≡ true → is_end line ≡ true → IsLot packet lane h i lot
-    → made (past lane (take lot.next h)) < made (past lane (take i h))
-lot_next packet lane h i lot line low sound got ours over w =
+pub count_next : (packet : ℕ) (lane : Lane) (h : History) (i : ℕ) (before : LaneCount) (line : Line) → i < length h → IsSound (past lane h) → option_map (λ (e : Entry). e.0) (slice_get h i) ≡ Some line → concerns lane (line, []) ≡ true → is_end line ≡ true → IsLaneCount packet lane h i before
+    → made (past lane (take before.next h)) < made (past lane (take i h))
+count_next packet lane h i before line low sound got ours over w =
     let e = with_bytes (slice_get h i) line got in
     let step = step_is lane h i line e.0 true ours e.1 in
     let n = next_end line e.0 (past lane (take i h)) over (subst IsSound step (sound_front lane h (i + 1) (omega arith) sound)) in
     let at = w.ended in
     omega (arith, at, n.1)
 
-pub lot_ends : (packet : ℕ) (lane : Lane) (h : History) (i next datagrams size : ℕ) (lot : Lot) (line : Line) (t : Tally) → i < length h → IsSound (past lane h)
+pub count_ends : (packet : ℕ) (lane : Lane) (h : History) (i next datagrams size : ℕ) (before : LaneCount) (line : Line) (t : Tally) → i < length h → IsSound (past lane h)
     → option_map (λ (e : Entry). e.0) (slice_get h i) ≡ Some line → concerns lane (line, []) ≡ true → is_end line ≡ true
-    → datagrams ≡ span_size (span (past lane (take i h)) (made (past lane (take lot.next h)))) → size ≡ length (made_bytes (past lane (take i h)) (made (past lane (take lot.next h))))
-    → made (past lane (take next h)) ≡ made (past lane (take lot.next h)) + 1 → next ≤ i → datagrams < 2 ^ 64 → size / packet + 1 ≤ 2 ^ 64
-    → t ≡ end_counted line datagrams size packet lot.tally → IsLot packet lane h i lot → IsLot packet lane h (i + 1) (record { next = next; tally = t })
-lot_ends packet lane h i next datagrams size lot line t low sound got ours over d b on order small few told w =
+    → datagrams ≡ span_size (span (past lane (take i h)) (made (past lane (take before.next h)))) → size ≡ length (made_bytes (past lane (take i h)) (made (past lane (take before.next h))))
+    → made (past lane (take next h)) ≡ made (past lane (take before.next h)) + 1 → next ≤ i → datagrams < 2 ^ 64 → size / packet + 1 ≤ 2 ^ 64
+    → t ≡ end_counted line datagrams size packet before.tally → IsLaneCount packet lane h i before → IsLaneCount packet lane h (i + 1) (record { next = next; tally = t })
+count_ends packet lane h i next datagrams size before line t low sound got ours over d b on order small few told w =
     let g = past lane (take i h) in
     let e = with_bytes (slice_get h i) line got in
     let step = step_is lane h i line e.0 true ours e.1 in
@@ -304,7 +304,7 @@ lot_ends packet lane h i next datagrams size lot line t low sound got ours over 
     let all : t ≡ counts packet ((line, e.0) ∷ g) = told ∙ rw (d, b, w.ended, w.counted) (sym (counted_end packet line e.0 g (ends g) n.0)) in
     record {
       counted = rw step all;
-      within = rw told (within_end i line datagrams size packet lot.tally small few w.within);
+      within = rw told (within_end i line datagrams size packet before.tally small few w.within);
       order = omega arith;
       ended = rw step (on ∙ ap (λ m. m + 1) w.ended ∙ sym (endings_end line e.0 g over));
     }

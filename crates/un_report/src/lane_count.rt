@@ -4,7 +4,7 @@ ghost use Rattle.std.specs.Prelude.{◌≡◌, ◌+◌, ◌<◌, ◌≤◌, ◌�
 ghost use Rattle.un_journal.specs.History.{past, made, span, made_bytes};
 ghost use Rattle.un_journal.specs.Sound.{IsSound};
 ghost use Rattle.un_report.specs.Counts.{span_size};
-ghost use Rattle.un_report.specs.Steps.{made_span, IsLot};
+ghost use Rattle.un_report.specs.Steps.{made_span, IsLaneCount};
 
 use crate::tally::{Tally, count_end, count_line, is_end, nothing};
 use un_frame::Lane;
@@ -13,14 +13,14 @@ use un_journal::{Journal, Line};
 /// What is known of a lane after some lines: its counts, and the place in the history from which to look for the line that makes
 /// the next transfer to end.
 #[derive(Clone, Copy, Debug)]
-pub struct Lot {
+pub struct LaneCount {
     pub next: u64,
     pub tally: Tally,
 }
 
 /// A transfer that was found: the place after the line that makes it, and how many datagrams and bytes it has.
 #[derive(Clone, Copy, Debug)]
-pub struct Found {
+pub struct FoundTransfer {
     pub next: u64,
     pub datagrams: u64,
     pub bytes: u64,
@@ -42,7 +42,7 @@ fn made_span(lane: Lane, line: Line) -> Option<(u64, u64)>
 }
 
 /// The next transfer that the lane makes from a place on, which is before this index.
-fn find(journal: &Journal, lane: Lane, from: u64, index: u64) -> Found
+fn find(journal: &Journal, lane: Lane, from: u64, index: u64) -> FoundTransfer
     requires sound { IsSound (past lane journal.now.history) }
     requires order { from ≤ index }
     requires within { index ≤ length journal.now.history }
@@ -55,7 +55,7 @@ fn find(journal: &Journal, lane: Lane, from: u64, index: u64) -> Found
     for at in from..index {
         let (line, bytes) = journal.entry(at);
         if let Some((begin, end)) = made_span(lane, line) {
-            return Found {
+            return FoundTransfer {
                 next: at + 1,
                 datagrams: end.saturating_sub(begin),
                 bytes: bytes.len() as u64,
@@ -66,38 +66,45 @@ fn find(journal: &Journal, lane: Lane, from: u64, index: u64) -> Found
 }
 
 /// Nothing is known before the first line.
-pub fn first() -> Lot
+pub fn first() -> LaneCount
     ensures { (result.next ≡ 0) × (result.tally ≡ Rattle.un_report.specs.Counts.counts 512 []) }
 {
-    Lot {
+    LaneCount {
         next: 0,
         tally: nothing(),
     }
 }
 
 /// What is known with the line of this index too, for packets of so many bytes.
-pub fn count(journal: &Journal, lane: Lane, lot: Lot, packet: u32, index: u64) -> Lot
+pub fn count(journal: &Journal, lane: Lane, before: LaneCount, packet: u32, index: u64) -> LaneCount
     requires sound { IsSound (past lane journal.now.history) }
     requires packet { 8 ≤ packet }
     requires within { index < length journal.now.history }
     requires few { index < 18446744073709551615 }
-    requires before { IsLot packet lane journal.now.history index lot }
-    ensures { IsLot packet lane journal.now.history (index + 1) result }
+    requires before { IsLaneCount packet lane journal.now.history index before }
+    ensures { IsLaneCount packet lane journal.now.history (index + 1) result }
 {
     journal.keeps_entries();
     let line = journal.line(index);
     if !line.concerns(lane) {
-        return lot;
+        return before;
     }
     if !is_end(line) {
-        return Lot {
-            next: lot.next,
-            tally: count_line(lot.tally, line, index),
+        return LaneCount {
+            next: before.next,
+            tally: count_line(before.tally, line, index),
         };
     }
-    let found = find(journal, lane, lot.next, index);
-    Lot {
+    let found = find(journal, lane, before.next, index);
+    LaneCount {
         next: found.next,
-        tally: count_end(lot.tally, line, found.datagrams, found.bytes, packet, index),
+        tally: count_end(
+            before.tally,
+            line,
+            found.datagrams,
+            found.bytes,
+            packet,
+            index,
+        ),
     }
 }
