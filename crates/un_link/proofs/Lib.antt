@@ -1,20 +1,20 @@
-pub mod Frames
-pub mod Working
-pub mod Unchanged
-pub mod Flying
-pub mod Holding
-pub mod Offers
-pub mod Rooms
-pub mod Fresh
-pub mod Resting
+mod Frames
+mod Working
+mod Unchanged
+mod Flying
+mod Holding
+mod Offers
+mod Rooms
+mod Fresh
+mod Resting
 pub mod Agreeing
 pub mod Draining
-pub mod Takings
-pub mod Flights
-pub mod BothLanes
-pub mod Ordering
-pub mod Controlling
-pub mod Settling
-pub mod Lawfully
-pub mod Refusing
-pub mod Standing
+mod Takings
+mod Flights
+mod BothLanes
+mod Ordering
+mod Controlling
+mod Settling
+mod Lawfully
+mod Refusing
+mod Places

@@ -338,6 +338,22 @@ pub take_still : (script : Script) (phase : Phase) (way : Way) (h : History) (se
     → is_still (work script h (Work.Offer way.lane sender)) ≡ is_still (accept way.tx.params way.lane sender (with_frame way.tx frame) (past way.lane h))
 take_still script phase way h sender frame k p w head v = ap is_still (accept_is script phase way h sender frame k p w head v)
 
+-- an offer writes lines where it would if the frame were taken: it is taken, or refused
+pub acts_anyway : (script : Script) (phase : Phase) (way : Way) (h : History) (sender : ℕ) (frame : Frame) → Keeps script phase way (past way.lane h) → phase ≡ phase_of script h → works phase ≡ true
+    → feed_head script way.lane (past way.lane h) sender ≡ Some frame
+    → (verdict_of script.params way.lane frame ≡ Take → is_still (accept way.tx.params way.lane sender (with_frame way.tx frame) (past way.lane h)) ≡ false)
+    → is_still (work script h (Work.Offer way.lane sender)) ≡ false
+acts_anyway script phase way h sender frame k p w head can = go (verdict_of script.params way.lane frame) refl
+  where
+    refused : (why : Verdict) → verdict_of script.params way.lane frame ≡ why → why ≢ Take → is_still (work script h (Work.Offer way.lane sender)) ≡ false
+    refused why v n = ap is_still (refuse_is script h way.lane sender frame why (ap works (sym p) ∙ w) head v n)
+
+    go : (v : Verdict) → verdict_of script.params way.lane frame ≡ v → is_still (work script h (Work.Offer way.lane sender)) ≡ false
+    go Verdict.Take v = take_still script phase way h sender frame k p w head v ∙ can v
+    go Verdict.Short v = refused Verdict.Short v (λ e. absurd (cc))
+    go Verdict.Long v = refused Verdict.Long v (λ e. absurd (cc))
+    go Verdict.Filtered v = refused Verdict.Filtered v (λ e. absurd (cc))
+
 -- an offer from a feed without a further frame writes nothing
 pub spent_writes : (script : Script) (h : History) (lane : Lane) (s : ℕ) → not (is_some (feed_head script lane (past lane h) s)) ≡ true → step_of script h (Action.Offer lane s) ≡ []
 spent_writes script h lane s none = go (feed_head script lane (past lane h) s) none

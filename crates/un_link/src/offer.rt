@@ -68,7 +68,7 @@ impl<T: TxEnd + Drop, R: RxEnd + Drop> Half<T, R> {
             && self.stays(shared, lane, 3)
     }
 
-    /// Whether an offer of the sender would neither take nor refuse a frame.
+    /// Whether an offer of the sender would neither take nor refuse a frame. Where the builder has room for a frame, an offer does either, so the frame isn't judged here.
     fn stays(&self, shared: &Shared, lane: Lane, sender: u32) -> bool
         requires lane { self.now.path.lane ≡ lane }
         requires kept { HalfKeeps shared.now self.now }
@@ -82,9 +82,12 @@ impl<T: TxEnd + Drop, R: RxEnd + Drop> Half<T, R> {
         if !takes_frames(shared.phase) {
             return true;
         }
-        match verdict(script.params(), lane, frame) {
-            Verdict::Take => !self.path.can_offer(frame.len() as u32),
-            _ => false,
+        let Ok(length) = u32::try_from(frame.len()) else {
+            return false;
+        };
+        if self.path.can_offer(length) {
+            return false;
         }
+        matches!(verdict(script.params(), lane, frame), Verdict::Take)
     }
 }

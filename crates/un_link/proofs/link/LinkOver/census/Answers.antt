@@ -2,7 +2,7 @@ use Rattle.std.proofs.Common.{arith, ◌≤◌, ◌<◌, sym, ◌∙◌, ap, sub
 use Rattle.un_facts.specs.Numbers.{one_if}
 use Rattle.un_journal.specs.History.{gave, past, taken}
 use Rattle.un_link.specs.Link.{Holds, Link}
-use Rattle.un_link.proofs.Standing.{in_path_few, filled_is, census_adds, census_names, census_none, past_census}
+use Rattle.un_link.proofs.Places.{in_path_few, filled_is, census_adds, census_names, census_none, past_census}
 use Rattle.un_link.proofs.link.LinkOver.census.Goals as goal
 
 pub returns-then-number-accepted-clause-counts : goal.returns-then-number-accepted-clause-counts

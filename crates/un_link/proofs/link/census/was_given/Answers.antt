@@ -1,5 +1,5 @@
 use Rattle.std.proofs.Common.{sym, ◌∙◌}
-use Rattle.un_link.proofs.Standing.{line_at, gave_at, gave_not}
+use Rattle.un_link.proofs.Places.{line_at, gave_at, gave_not}
 use Rattle.un_link.proofs.link.census.was_given.Goals as goal
 
 pub returns-then-gives : goal.returns-then-gives
