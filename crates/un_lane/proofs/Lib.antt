@@ -1,24 +1,24 @@
 pub mod Adding
-pub mod Contents
-pub mod Counting
-pub mod Serials
-pub mod Finishing
-pub mod Taking
-pub mod Landing
-pub mod Opening
-pub mod Giving
+mod Contents
+mod Counting
+mod Serials
+mod Finishing
+mod Taking
+mod Landing
+mod Opening
+mod Giving
 pub mod Making
-pub mod Offering
-pub mod Sending
-pub mod Closing
-pub mod Starting
-pub mod Marking
-pub mod Recalling
-pub mod Cutting
-pub mod Dropping
-pub mod Looping
-pub mod Resuming
+mod Offering
+mod Sending
+mod Closing
+mod Starting
+mod Marking
+mod Recalling
+mod Cutting
+mod Dropping
+mod Looping
+mod Resuming
 pub mod Lookups
-pub mod Stillness
-pub mod Numbering
+mod Stillness
+mod Numbering
 pub mod LinkSteps

@@ -1,5 +1,5 @@
 use Rattle.std.proofs.Common.{◌-◌, ◌*◌}
-use Rattle.un_share.proofs.eleven.+run_from+fn-run_from-join+arg2.Given as goal
+use Rattle.un_share.proofs.eleven.+fn-run_from-join+arg2+run_from.Given as goal
 
 abbrev pub decreases-run_from : goal.decreases-run_from
 decreases-run_from g l = 22 - 2 * l.actor
