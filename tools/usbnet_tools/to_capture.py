@@ -1,0 +1,176 @@
+"""The tool to-capture: a trace as a pcapng that Wireshark shows. Not proved."""
+from __future__ import annotations
+
+import argparse
+import struct
+import sys
+from collections import deque
+from dataclasses import dataclass, field
+from typing import Callable
+
+from . import NOT_PROVED
+from .capture_file import ETHERNET, INBOUND, NANOSECONDS, OUTBOUND, USBMON_MAPPED, Interface, Writer
+from .descriptors import functions_in
+from .trace import Line, Output, Report, TraceError, read_output
+from .usb_records import URB_ZERO_PACKET, Kind
+
+BUS, DEVICE = 1, 1
+OUT_FRAMES, IN_FRAMES, USB = 0, 1, 2
+FRAMES = {"out": (OUT_FRAMES, OUTBOUND), "in": (IN_FRAMES, INBOUND)}
+INTERFACES = [
+    Interface(ETHERNET, "out", "frames that arrived at the gadget"),
+    Interface(ETHERNET, "in", "frames that arrived at the host"),
+    Interface(USBMON_MAPPED, "usb", "transfers as usbmon would show them at the host"),
+]
+IN_PROGRESS, ARRIVED, PROTOCOL, STALL, WITHDRAWN = -115, 0, -71, -32, -104
+FAULTS = {"proto": PROTOCOL, "halt": STALL}
+FIRST_REQUEST = 0xFFFF_8880_0000_0000
+NO_SETUP, NOTHING_IN, NOTHING_OUT = ord("-"), ord("<"), ord(">")
+DESCRIPTORS = bytes.fromhex("8006000200")
+EPILOG = """\
+The file has three interfaces: `out` and `in` with the delivered frames, and `usb` with the transfers, as usbmon would show them at the
+host. Its times are the trace's line numbers, in seconds, and each packet has its line as a comment. An outward transfer is submitted
+where it was made and completed where it landed (status 0), failed (proto -71, halt -32) or was cut (-104); an inward one is the
+completion of the request that `posted in` submitted. An inward transfer that is cut before it flies isn't seen at the host. Where the
+report follows the trace, its set-up stands at time 0, so that the descriptors are there.
+"""
+
+
+@dataclass
+class Usb:
+    """Writes the USB requests of a trace."""
+
+    writer: Writer
+    report: Report
+    out_address: int = 0x02
+    in_address: int = 0x81
+    requests: int = 0
+    """How many requests were submitted."""
+    made: dict = field(default_factory=dict)
+    """The bytes of each transfer, by lane and serial."""
+    submitted: dict = field(default_factory=dict)
+    """The request of each outward transfer that isn't completed, by serial."""
+    posted: deque = field(default_factory=deque)
+    """The requests that wait for an inward transfer, the first one first."""
+    flying: dict = field(default_factory=dict)
+    """The request of each inward transfer on the bus, by serial."""
+
+    def set_up(self) -> None:
+        """Writes the control transfers of the report's set-up, at time 0."""
+        for setup, payload in self.report.controls:
+            is_read = bool(setup[0] & 0x80)
+            length = struct.unpack("<H", setup[6:8])[0]
+            request = self._submit(0, "set-up", Kind.CONTROL, 0x80 if is_read else 0, length, payload if not is_read else b"", setup)
+            self._event("C", 0, "set-up", Kind.CONTROL, request, 0x80 if is_read else 0, ARRIVED, len(payload), payload if is_read else b"")
+            if setup.startswith(DESCRIPTORS):
+                for function in functions_in(payload, BUS, DEVICE, "the report"):
+                    self.out_address, self.in_address = function.out.address, function.back.address
+
+    def made_transfer(self, line: Line) -> None:
+        self.made[line.lane, line["serial"]] = line["bytes"]
+        if line.lane == "out":
+            data = line["bytes"]
+            self.submitted[line["serial"]] = self._submit(line.number, line.text, Kind.BULK, self.out_address, len(data), data)
+
+    def posted_request(self, line: Line) -> None:
+        if line.lane == "in":
+            largest = max(self.report.segment, self.report.block)
+            # one packet more, so that what fills its packets has room for the empty one
+            length = (largest // self.report.packet + 1) * self.report.packet
+            self.posted.append(self._submit(line.number, line.text, Kind.BULK, self.in_address, length))
+
+    def recalled_request(self, line: Line) -> None:
+        if line.lane == "in":
+            self._end_inward(line, self._first_posted(line), WITHDRAWN)
+
+    def took_off(self, line: Line) -> None:
+        if line.lane == "in":
+            self.flying[line["serial"]] = self._first_posted(line)
+
+    def ended(self, line: Line) -> None:
+        """Writes the completion of a transfer that landed, failed or was cut."""
+        status = {"landed": ARRIVED, "failed": FAULTS.get(line.fields.get("fault"), PROTOCOL), "cut": WITHDRAWN}[line.kind]
+        data = self._bytes_of(line) if status == ARRIVED else b""
+        if line.lane == "out":
+            request = self.submitted.pop(line["serial"], None)
+            if request is None:
+                raise TraceError(f"line {line.number}: {line.text!r} is of a transfer that isn't under way")
+            self._event("C", line.number, line.text, Kind.BULK, request, self.out_address, status, len(data))
+        elif line["serial"] in self.flying:
+            self._end_inward(line, self.flying.pop(line["serial"]), status, data)
+
+    def _end_inward(self, line: Line, request: int, status: int, data: bytes = b"") -> None:
+        self._event("C", line.number, line.text, Kind.BULK, request, self.in_address, status, len(data), data)
+
+    def _bytes_of(self, line: Line) -> bytes:
+        if (line.lane, line["serial"]) not in self.made:
+            raise TraceError(f"line {line.number}: {line.text!r} is of a transfer that was never made")
+        return self.made[line.lane, line["serial"]]
+
+    def _first_posted(self, line: Line) -> int:
+        if not self.posted:
+            raise TraceError(f"line {line.number}: {line.text!r}, and no request is posted")
+        return self.posted.popleft()
+
+    def _submit(self, time: int, comment: str, kind: Kind, endpoint: int, length: int, data: bytes = b"", setup: bytes = b"") -> int:
+        request = FIRST_REQUEST + 0x100 * self.requests
+        self.requests += 1
+        self._event("S", time, comment, kind, request, endpoint, IN_PROGRESS, length, data, setup)
+        return request
+
+    def _event(
+        self, event: str, time: int, comment: str, kind: Kind, request: int, endpoint: int, status: int, length: int,
+        data: bytes = b"", setup: bytes = b"",
+    ) -> None:
+        """Writes one event, with the 64 bytes of usbmon's header."""
+        is_inward = bool(endpoint & 0x80)
+        carries = bool(data) or (is_inward == (event == "C") and kind is Kind.BULK)
+        no_data = 0 if carries else NOTHING_IN if is_inward else NOTHING_OUT
+        flags = (0 if is_inward else URB_ZERO_PACKET) | (0x200 if is_inward else 0)
+        head = struct.pack(
+            "<QBBBBHBBqiiII8siiII", request, ord(event), kind.value, endpoint, DEVICE, BUS, 0 if setup else NO_SETUP, no_data,
+            time, 0, status, length, len(data), setup, 0, 0, flags, 0,
+        )
+        self.writer.packet(USB, time * NANOSECONDS, head + data, comment)
+
+
+def arguments() -> argparse.ArgumentParser:
+    parser = argparse.ArgumentParser(
+        prog="to-capture",
+        description=f"Writes a trace as a pcapng, so that Wireshark shows its frames and its transfers. {NOT_PROVED}",
+        epilog=EPILOG,
+        formatter_class=argparse.RawDescriptionHelpFormatter,
+    )
+    parser.add_argument("trace", nargs="?", default="-", help="what usbnet serial or run printed; standard input without it")
+    parser.add_argument("-o", "--output", metavar="FILE", required=True, help="the pcapng to write")
+    return parser
+
+
+def write_capture(output: Output, writer: Writer) -> None:
+    """Writes the packets of a trace, and before them the set-up of its report."""
+    usb = Usb(writer, output.report or Report())
+    usb.set_up()
+    calls: dict[str, Callable[[Line], None]] = {
+        "made": usb.made_transfer, "posted": usb.posted_request, "recalled": usb.recalled_request, "flying": usb.took_off,
+        "landed": usb.ended, "failed": usb.ended, "cut": usb.ended,
+    }
+    for line in output.lines:
+        if line.kind == "gave":
+            interface, direction = FRAMES[line.lane]
+            writer.packet(interface, line.number * NANOSECONDS, line["bytes"], line.text, direction)
+        elif line.kind in calls:
+            calls[line.kind](line)
+
+
+def main() -> int:
+    asked = arguments().parse_args()
+    try:
+        stream = sys.stdin if asked.trace == "-" else open(asked.trace, encoding="ascii")
+        with stream:
+            output = read_output(stream)
+        with open(asked.output, "wb") as out:
+            write_capture(output, Writer(out, INTERFACES, "usbnet to-capture"))
+        return 0
+    except (OSError, UnicodeDecodeError, TraceError) as trouble:
+        print(f"to-capture: {trouble}", file=sys.stderr)
+        return 2
