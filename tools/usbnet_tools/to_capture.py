@@ -30,7 +30,7 @@ DESCRIPTORS = bytes.fromhex("8006000200")
 EPILOG = """\
 The file has three interfaces: `out` and `in` with the delivered frames, and `usb` with the transfers, as usbmon would show them at the
 host. Its times are the trace's line numbers, in seconds, and each packet has its line as a comment. An outward transfer is submitted
-where it was made and completed where it landed (status 0), failed (proto -71, halt -32) or was cut (-104); an inward one is the
+where it was made (also where a sleeping link defers it) and completed where it landed (status 0), failed (proto -71, halt -32) or was cut (-104); an inward one is the
 completion of the request that `posted in` submitted. An inward transfer that is cut before it flies isn't seen at the host. Where the
 report follows the trace, its set-up stands at time 0, so that the descriptors are there.
 """
