@@ -6,6 +6,7 @@ the capture cut it, and it takes most of a millisecond for a block. So the few b
 from __future__ import annotations
 
 import gzip
+import io
 import struct
 from dataclasses import dataclass
 from typing import BinaryIO, Callable, Iterator
@@ -61,30 +62,16 @@ class Packet:
     direction: int = 0
 
 
-def read_capture(stream: BinaryIO, warn: Callable[[str], None]) -> Iterator[Packet]:
+def read_capture(stream: io.BufferedReader, warn: Callable[[str], None]) -> Iterator[Packet]:
     """The packets of a pcap or pcapng, which may be compressed by gzip. A file that ends within a packet is told to `warn`."""
+    if stream.peek(2)[:2] == b"\x1f\x8b":
+        stream = gzip.GzipFile(fileobj=stream)
     magic = stream.read(4)
-    if magic[:2] == b"\x1f\x8b":
-        stream = gzip.GzipFile(fileobj=_Again(magic, stream))
-        magic = stream.read(4)
     if magic in PCAP_MAGIC:
         return _read_pcap(stream, *PCAP_MAGIC[magic], warn)
     if magic == struct.pack("<I", SECTION):
         return _read_pcapng(stream, warn)
     raise CaptureError(f"neither a pcap nor a pcapng: it begins with {magic.hex() or 'nothing'}")
-
-
-class _Again:
-    """A stream whose first bytes were read already."""
-
-    def __init__(self, front: bytes, rest: BinaryIO):
-        self.front, self.rest = front, rest
-
-    def read(self, size: int = -1) -> bytes:
-        if not self.front:
-            return self.rest.read(size)
-        taken, self.front = self.front, b""
-        return taken + self.rest.read(-1 if size < 0 else max(0, size - len(taken)))
 
 
 def _read_pcap(stream: BinaryIO, order: str, ticks: int, warn: Callable[[str], None]) -> Iterator[Packet]:

@@ -94,7 +94,8 @@ def settings_of(data: bytes) -> list[Setting]:
         if one[1] == INTERFACE and len(one) >= 9:
             found.append(Setting(one[2], (one[5], one[6], one[7])))
         elif one[1] == ENDPOINT and len(one) >= 7 and one[3] & 3 == BULK and found:
-            found[-1].endpoints.append(Endpoint(one[2], int.from_bytes(one[4:6], "little") & 0x7FF))
+            # a full packet has no fewer than 8 bytes: another number is of damaged descriptors, and only the packet's end counts then
+            found[-1].endpoints.append(Endpoint(one[2], max(8, int.from_bytes(one[4:6], "little") & 0x7FF)))
         elif one[1] == FUNCTIONAL and len(one) >= 5 and one[2] == UNION_SUBTYPE and found:
             found[-1].union = list(one[3:])
         place += data[place]
@@ -164,7 +165,7 @@ def find_functions(records: Iterable[Record]) -> Found:
 
 def _set_one(configurations: list[Control], value: int | None) -> list[Control]:
     """The configuration that was set, where the capture tells; else each."""
-    return [one for one in configurations if one.data[5:6] == bytes([value or 0])] or configurations
+    return [one for one in configurations if one.data[5:6] == bytes([(value or 0) & 0xFF])] or configurations
 
 
 def _with_format(function: Function, request: Control | None) -> Function:

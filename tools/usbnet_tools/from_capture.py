@@ -76,8 +76,8 @@ def arguments() -> argparse.ArgumentParser:
     parser.add_argument("--out", type=_number, metavar="ENDPOINT", help="the bulk endpoint to the device, as 0x02 or 2")
     parser.add_argument("--in", dest="back", type=_number, metavar="ENDPOINT", help="the one to the host, as 0x81 or 129")
     parser.add_argument("--device", type=_device, metavar="BUS.DEVICE", help="this device alone, as 1.5")
-    parser.add_argument("--packet", type=int, default=512, help="the bytes of a full packet, where no descriptor tells (512)")
-    parser.add_argument("--request", type=int, help="bytes of the host's inward requests, where the capture doesn't tell (USBPcap)")
+    parser.add_argument("--packet", type=int, choices=(8, 16, 32, 64, 512, 1024), default=512, metavar="BYTES", help="the bytes of a full packet, where no descriptor tells (512)")
+    parser.add_argument("--request", type=int, metavar="BYTES", help="bytes of the host's inward requests, where the capture doesn't tell (USBPcap)")
     parser.add_argument("--program", metavar="PATH", help="the usbnet program, where it isn't the one of this repository")
     return parser
 
@@ -257,6 +257,6 @@ def run(asked: argparse.Namespace, out: TextIO) -> int:
 def main() -> int:
     try:
         return run(arguments().parse_args(), sys.stdout)
-    except (OSError, CaptureError, ProgramError, Trouble) as trouble:
+    except (OSError, EOFError, CaptureError, ProgramError, Trouble) as trouble:
         print(f"from-capture: {trouble}", file=sys.stderr)
         return FAILED

@@ -132,6 +132,6 @@ def main() -> int:
         else:
             sys.stdout.write(text)
         return 0
-    except (OSError, CaptureError, Trouble) as trouble:
+    except (OSError, EOFError, CaptureError, Trouble) as trouble:
         print(f"to-script: {trouble}", file=sys.stderr)
         return 2
