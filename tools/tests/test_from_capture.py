@@ -19,7 +19,7 @@ function device 1.7, eem, out 0x02, in 0x81, packets of 512 bytes: descriptors i
 lane out transfers 5 frames 4 commands 0 faulty 2 withdrawn 0 unseen 1
 lane in transfers 3 frames 1 commands 0 faulty 2 withdrawn 1 unseen 0
 fault packet 6 endpoint 0x02 bad-sentinel at 0: [40] 00 02 00 00 00 00 02 02 00 00 00 00 01 08 00 ..
-fault packet 8 endpoint 0x02 truncated at 66: .. 3e 3f 40 41 de ad be ef [40] 00 01
+fault packet 8 endpoint 0x02 truncated at 66: .. 2e 2f 30 31 de ad be ef [40] 00 01
 fault packet 21 endpoint 0x81 capture cut: 652 of 906 bytes
 fault packet 23 endpoint 0x81 failed: EPROTO -71
 """
