@@ -34,7 +34,7 @@ NCM32 = """\
 function device 1.7, ncm32, out 0x02, in 0x81, packets of 512 bytes: descriptors in packet 2, format set in packet 4
 lane out transfers 4 frames 5 commands 0 faulty 1 withdrawn 0 unseen 0
 lane in transfers 2 frames 2 commands 0 faulty 0 withdrawn 0 unseen 0
-fault packet 13 endpoint 0x02 bad-entry at 92: .. 20 00 00 00 00 00 00 00 00 00 00 00 [10] 00 00 00 30 02 00 00 00 00 00 00 00 00 00 00
+fault packet 13 endpoint 0x02 bad-entry at 92: .. 00 00 00 00 00 00 00 00 [10] 00 00 00 30 02 00 00 00 00 00 00 00 00 00 00
 """
 FRAMES = {
     "eem-189.pcap": [[frame(1, 60), frame(2, 80), frame(5, 600), frame(6, 506)], [frame(7, 60)]],
