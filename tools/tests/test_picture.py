@@ -62,10 +62,11 @@ class Ways(unittest.TestCase):
             for script in (None, script_of(name)):
                 history = History(lines_of(name), script)
                 settled = {line.number: line for line in lines_of(name) if line.kind == "settled"}
-                self.assertEqual([history.homes.size(pool) for pool in POOLS], list(settled.popitem()[1].fields.values()))
+                sizes = [history.homes.size(pool) for pool in POOLS]
+                self.assertEqual(sizes, list(next(iter(settled.values())).fields.values()))
                 for number, counts in history.homes.away:
-                    self.assertTrue(all(0 <= counts[pool] <= history.homes.size(pool) for pool in POOLS), number)
-                    self.assertTrue(number not in settled or not any(counts.values()), number)
+                    self.assertTrue(all(0 <= count <= size for count, size in zip(counts, sizes)), number)
+                    self.assertTrue(number not in settled or not any(counts), number)
 
     def test_pools_are_at_least_what_was_away(self) -> None:
         homes = History(lines_of("three-pings"), None).homes

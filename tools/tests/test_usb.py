@@ -93,6 +93,11 @@ class Joining(unittest.TestCase):
             block = make_captures.ncm32(make_captures.frame(1, 60), size=512)
             self.assertEqual(joined("ncm32", (block, end), (block, end)), [[1], [2]])
 
+    def test_eem_commands_have_their_bytes(self) -> None:
+        echo, hint, reserved = b"\x04\x88abcd", b"\x04\x90", b"\x04\xc0"
+        for packets, whole in ((echo, True), (echo[:4], False), (hint, True), (reserved, True), (b"\0\0", True), (hint + echo + self.full, True)):
+            self.assertEqual(class_named("eem").is_whole(packets), whole, packets[:8])
+
     def test_a_signature_begins_a_block_where_nothing_is_told(self) -> None:
         block = make_captures.ncm32(make_captures.frame(1, 600))
         self.assertEqual(joined("ncm32", (block[:512], End.UNTOLD), (block, End.SHORT)), [[1], [2]])

@@ -9,9 +9,10 @@ import struct
 from dataclasses import dataclass
 from typing import Callable
 
-EEM_CHECKED_LENGTH = 0x3FFF
-EEM_ECHO_LENGTH = 0x07FF
-SENTINEL = bytes.fromhex("deadbeef")
+# of an EEM packet's header: the bit of a command, where its code is (with the reserved bit above), which commands carry bytes, and what
+# is a length
+EEM_COMMAND, EEM_CODE_PLACE, EEM_CODE, EEM_ECHOES = 0x8000, 11, 15, (0, 1)
+EEM_ECHO_LENGTH, EEM_FRAME_LENGTH = 0x07FF, 0x3FFF
 
 
 @dataclass(frozen=True)
@@ -33,12 +34,15 @@ def _nothing_told(data: bytes) -> bool | None:
 
 
 def _packets_end(data: bytes) -> bool | None:
-    """Whether the last of EEM's packets ends with the bytes (EEM 1.0, 5.1.2)."""
+    """Whether the last of EEM's packets ends with the bytes (EEM 1.0, 5.1)."""
     place = 0
     while place + 2 <= len(data):
         header = struct.unpack_from("<H", data, place)[0]
-        is_command = header & 0x8000
-        place += 2 + (header & EEM_ECHO_LENGTH if is_command else header & EEM_CHECKED_LENGTH)
+        if not header & EEM_COMMAND:
+            place += header & EEM_FRAME_LENGTH
+        elif header >> EEM_CODE_PLACE & EEM_CODE in EEM_ECHOES:
+            place += header & EEM_ECHO_LENGTH
+        place += 2
     return place == len(data)
 
 

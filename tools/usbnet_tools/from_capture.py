@@ -107,9 +107,9 @@ def read_records(name: str) -> Capture:
 
 def functions_of(capture: Capture, asked: argparse.Namespace) -> list[Function]:
     """The functions that are asked for, or else those that the capture tells of."""
-    if asked.out is not None and asked.back is not None:
-        if not asked.wire:
-            raise Trouble("the endpoints need a class, by --class")
+    if asked.out is not None or asked.back is not None:
+        if None in (asked.out, asked.back, asked.wire):
+            raise Trouble("--class, --out and --in belong together")
         bus, device = asked.device or (None, None)
         ends = Endpoint(asked.out, asked.packet), Endpoint(asked.back | 0x80, asked.packet)
         return [Function(bus, device, *ends, [class_named(asked.wire)], "the options")]

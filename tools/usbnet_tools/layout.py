@@ -67,6 +67,11 @@ class Layout:
     def shows(self, number: int) -> bool:
         return number in self.rows
 
+    def ways(self) -> list[Way]:
+        """The datagrams that are under way in these lines, in their order."""
+        there = {(lane, number) for lane, number, _ in self.tracks}
+        return [way for key, way in self.history.ways.items() if key in there]
+
     def _place_rows(self) -> None:
         y = TOP
         for count, line in enumerate(self.lines):

@@ -64,9 +64,8 @@ class Drawing:
         """What stands behind, and the ways."""
         self.words: list[str] = []
         """What is written over them."""
-        drawn = [way for way in self.history.ways.values() if any(key[:2] == (way.lane, way.number) for key in layout.tracks)]
-        self.colours = {(way.lane, way.number): index for index, way in enumerate(drawn)}
-        self.ways = drawn
+        self.ways = layout.ways()
+        self.colours = {(way.lane, way.number): index for index, way in enumerate(self.ways)}
 
     def draw(self) -> list[str]:
         self._ground()
@@ -256,12 +255,12 @@ def picture(lines: list[Line], script: Script | None, first: int, last: int, tit
     light, dark = rules(LIGHT, 0.55, len(drawing.ways)), rules(DARK, 0.78, len(drawing.ways))
     style = f"\n{SHAPES}{light}\n@media (prefers-color-scheme: dark) {{\n{dark}\n}}\n"
     below = strip(history.homes, layout)
-    return svg.document(layout.width, height, title, describe(history, layout), style, [ground, *heads, *parts, *below])
+    return svg.document(layout.width, height, title, describe(layout), style, [ground, *heads, *parts, *below])
 
 
-def describe(history: History, layout: Layout) -> str:
+def describe(layout: Layout) -> str:
     """The picture in words."""
-    ways = [way for way in history.ways.values() if any(key[:2] == (way.lane, way.number) for key in layout.tracks)]
+    ways = layout.ways()
     lost = [way.told for way in ways if way.loss]
     return f"A sequence diagram of {len(layout.lines)} lines with {len(ways)} datagrams. " + ("; ".join(lost) or "No datagram is lost") + "."
 

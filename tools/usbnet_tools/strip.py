@@ -39,7 +39,7 @@ def _band(homes: Homes, pool: str, layout: Layout, left: float, right: float, to
     x, y, path = left, bottom, f"M{svg.number(left)} {svg.number(bottom)}"
     for number, counts in homes.away:
         if layout.shows(number):
-            y = bottom - room * (size - counts[pool]) / max(1, size)
+            y = bottom - room * (size - counts[POOLS.index(pool)]) / max(1, size)
             path += f"V{svg.number(y)}H{svg.number(x + step)}"
             x += step
     parts += [svg.element("path", d=f"{path}V{svg.number(bottom)}Z", kind="bar"), svg.line(left, bottom, right, bottom, "rule")]

@@ -58,14 +58,15 @@ class Way:
 class Homes:
     """For each pool, at each line: how many requests are away from home."""
 
-    away: list[tuple[int, Counter]] = field(default_factory=list)
-    """A line's number, and the counts behind it."""
+    away: list[tuple[int, tuple[int, ...]]] = field(default_factory=list)
+    """A line's number, and the counts behind it in the order of POOLS."""
     sizes: dict[str, int] = field(default_factory=dict)
     """The pools' sizes, where they are known."""
 
     def size(self, pool: str) -> int:
         """The pool's size, or else the most of its requests that were ever away."""
-        return self.sizes.get(pool) or max((counts[pool] for _, counts in self.away), default=0)
+        index = POOLS.index(pool)
+        return self.sizes.get(pool) or max((counts[index] for _, counts in self.away), default=0)
 
 
 class History:
@@ -86,7 +87,7 @@ class History:
             call = CALLS.get(line.kind)
             if call:
                 call(self, line)
-            self.homes.away.append((line.number, Counter(self.away)))
+            self.homes.away.append((line.number, tuple(self.away[pool] for pool in POOLS)))
 
     def cause(self, control: int) -> str:
         """The name of a control, as far as a script tells it."""
