@@ -12,7 +12,8 @@ TEXT_WIDTH = 226
 ROW = 18
 STRAND = 3.5
 TRACK = 7
-WIDEST_BAND = 90
+WIDEST_BAND = 120
+WIDEST_STROKE = 1.8
 APP_GAP, BUS_GAP = 104, 148
 TOP = 62
 HEADER = 26
@@ -71,6 +72,11 @@ class Layout:
         """The datagrams that are under way in these lines, in their order."""
         there = {(lane, number) for lane, number, _ in self.tracks}
         return [way for key, way in self.history.ways.items() if key in there]
+
+    @property
+    def stroke(self) -> float:
+        """How wide a way is drawn: thinner where tracks are near each other."""
+        return min(WIDEST_STROKE, 0.6 * min(self.gaps.values()))
 
     def _place_rows(self) -> None:
         y = TOP

@@ -22,7 +22,7 @@ text { font-family: system-ui, 'DejaVu Sans', sans-serif; font-size: 11px }
 .title { font-size: 15px; font-weight: 600 }
 .station { font-size: 12px; font-weight: 600 }
 .code { font-family: ui-monospace, 'DejaVu Sans Mono', monospace; font-size: 10.5px; white-space: pre }
-.way { fill: none; stroke-width: 1.8; stroke-linejoin: round }
+.way { fill: none; stroke-linejoin: round }
 .halo { paint-order: stroke; stroke-width: 3px; stroke-linejoin: round }
 .request { stroke-dasharray: 3 3 }
 .cross { fill: none; stroke-width: 2.2 }
@@ -253,7 +253,7 @@ def picture(lines: list[Line], script: Script | None, first: int, last: int, tit
     told = f"lines {layout.first} to {layout.last} of the trace · colours and numbers: datagrams · dashes: requests · crosses: losses"
     heads = [svg.text(MARGIN, 26, title, "title"), svg.text(MARGIN, 45, told, "faint")]
     light, dark = rules(LIGHT, 0.55, len(drawing.ways)), rules(DARK, 0.78, len(drawing.ways))
-    style = f"\n{SHAPES}{light}\n@media (prefers-color-scheme: dark) {{\n{dark}\n}}\n"
+    style = f"\n{SHAPES}.way {{ stroke-width: {svg.number(layout.stroke)} }}\n{light}\n@media (prefers-color-scheme: dark) {{\n{dark}\n}}\n"
     below = strip(history.homes, layout)
     return svg.document(layout.width, height, title, describe(layout), style, [ground, *heads, *parts, *below])
 

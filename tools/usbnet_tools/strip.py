@@ -33,7 +33,7 @@ def _band(homes: Homes, pool: str, layout: Layout, left: float, right: float, to
     size = homes.size(pool)
     known = pool in homes.sizes
     bottom, room = top + BAND - 6, BAND - 10
-    told = f"of {size}" if known else f"of {size} or more"
+    told = f"of {size}" if known else f"of {size} or more" if size else "never away"
     parts = [svg.text(MARGIN, bottom - 8, NAMES[pool], ""), svg.text(left - 10, bottom - 8, told, "faint", "end")]
     step = (right - left) / len(layout.lines)
     x, y, path = left, bottom, f"M{svg.number(left)} {svg.number(bottom)}"
