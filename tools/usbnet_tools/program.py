@@ -15,7 +15,9 @@ BINARY = TOP / "crates" / "usbnet_run" / "out" / "usbnet_run"
 PROVED = "proved and built by"
 # each run without a build reads all sources anew: so many are bearable
 MOST_UNBUILT = 8
-DONE, NO_MEMORY, TOO_LARGE, BAD_TRANSFER = 0, 1, 7, 8
+DONE, TOO_LARGE, BAD_TRANSFER = 0, 7, 8
+# what a launcher needs of the environment: the more is handed on, the more a start costs
+ENVIRONMENT = {name: os.environ[name] for name in ("PATH", "HOME", "TMPDIR", "RATTLE_HOME") if name in os.environ}
 
 
 class ProgramError(Exception):
@@ -65,25 +67,23 @@ class Program:
                 f"{len(distinct)} distinct transfers, and the program isn't built: each would take a minute. "
                 f"Build it first by {LAUNCHER} --build, or say where a built one is by --program PATH"
             )
-        with tempfile.TemporaryDirectory(prefix="usbnet-") as room, ThreadPoolExecutor(os.cpu_count()) as pool:
-            answers = pool.map(lambda item: self._decode_one(Path(room), *item), enumerate(distinct))
-            return dict(zip(distinct, answers))
+        with ThreadPoolExecutor(os.cpu_count()) as pool:
+            return dict(zip(distinct, pool.map(lambda transfer: self._decode_one(*transfer), distinct)))
 
-    def _decode_one(self, room: Path, index: int, transfer: tuple[str, bytes]) -> Verdict:
-        """Runs the program once, over files: that costs less than pipes do."""
-        given, taken = room / f"{index}.transfer", room / f"{index}.text"
-        given.write_bytes(transfer[1])
-        actions = [
-            (os.POSIX_SPAWN_OPEN, 0, given, os.O_RDONLY, 0),
-            (os.POSIX_SPAWN_OPEN, 1, taken, os.O_WRONLY | os.O_CREAT, 0o600),
-            (os.POSIX_SPAWN_OPEN, 2, os.devnull, os.O_WRONLY, 0),
-        ]
-        child = os.posix_spawn(self.path, [str(self.path), "decode", transfer[0]], os.environ, file_actions=actions)
-        status = os.waitstatus_to_exitcode(os.waitpid(child, 0)[1])
-        text = taken.read_text("ascii")
-        given.unlink()
-        taken.unlink()
-        return read_verdict(status, text)
+    def _decode_one(self, wire: str, data: bytes) -> Verdict:
+        """Runs the program once, over files without a name: that costs less than pipes do."""
+        with tempfile.TemporaryFile() as given, tempfile.TemporaryFile(buffering=0) as taken:
+            given.write(data)
+            given.seek(0)
+            actions = [
+                (os.POSIX_SPAWN_DUP2, given.fileno(), 0),
+                (os.POSIX_SPAWN_DUP2, taken.fileno(), 1),
+                (os.POSIX_SPAWN_OPEN, 2, os.devnull, os.O_WRONLY, 0),
+            ]
+            child = os.posix_spawn(self.path, [str(self.path), "decode", wire], ENVIRONMENT, file_actions=actions)
+            status = os.waitstatus_to_exitcode(os.waitpid(child, 0)[1])
+            taken.seek(0)
+            return read_verdict(status, taken.readall().decode("ascii"))
 
 
 def read_verdict(status: int, text: str) -> Verdict:
