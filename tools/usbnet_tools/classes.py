@@ -20,8 +20,8 @@ class WireClass:
     """A class as `usbnet decode` names it."""
 
     name: str
-    interface: tuple[int, int]
-    """The class and subclass of its control interface (CDC 1.2; EEM has this interface alone)."""
+    interfaces: tuple[tuple[int, ...], ...]
+    """The class, the subclass and, where it matters, the protocol of its control interface (CDC 1.2; EEM has this interface alone)."""
     signature: bytes
     """How each transfer begins, where that is told."""
     is_whole: Callable[[bytes], "bool | None"]
@@ -59,10 +59,10 @@ def _block_ends(width: int) -> Callable[[bytes], "bool | None"]:
 
 
 CLASSES = [
-    WireClass("ecm", (2, 0x06), b"", _nothing_told),
-    WireClass("eem", (2, 0x0C), b"", _packets_end),
-    WireClass("ncm16", (2, 0x0D), b"NCMH", _block_ends(2)),
-    WireClass("ncm32", (2, 0x0D), b"ncmh", _block_ends(4)),
+    WireClass("ecm", ((2, 0x06),), b"", _nothing_told),
+    WireClass("eem", ((2, 0x0C),), b"", _packets_end),
+    WireClass("ncm16", ((2, 0x0D),), b"NCMH", _block_ends(2)),
+    WireClass("ncm32", ((2, 0x0D),), b"ncmh", _block_ends(4)),
 ]
 NAMES = [wire.name for wire in CLASSES]
 # network functions that the program doesn't decode, so that they are named rather than passed over
@@ -73,9 +73,9 @@ def class_named(name: str) -> WireClass:
     return CLASSES[NAMES.index(name)]
 
 
-def classes_of(interface: tuple[int, int]) -> list[WireClass]:
-    """The classes that an interface of this class and subclass may speak."""
-    return [wire for wire in CLASSES if wire.interface == interface]
+def classes_of(interface: tuple[int, int, int]) -> list[WireClass]:
+    """The classes that an interface of this class, subclass and protocol may speak."""
+    return [wire for wire in CLASSES if any(interface[: len(known)] == known for known in wire.interfaces)]
 
 
 def by_signature(choices: list[WireClass], transfer: bytes) -> WireClass | None:

@@ -118,7 +118,7 @@ def functions_in(data: bytes, bus: int | None, device: int | None, source: str) 
     settings = settings_of(data)
     found: dict[int, Function] = {}
     for control in settings:
-        choices = classes_of(control.kind[:2])
+        choices = classes_of(control.kind)
         bulk = _data_setting(settings, control) if choices else None
         if bulk and control.number not in found:
             ends = {endpoint.address & 0x80: endpoint for endpoint in reversed(bulk.endpoints)}
