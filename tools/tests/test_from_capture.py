@@ -112,11 +112,11 @@ class Words(unittest.TestCase):
 
 
 class TheProgram(unittest.TestCase):
-    """The one test that asks the program itself."""
+    """The one test that asks the program itself: the one that USBNET_PROGRAM names, or else the proved build."""
 
     def test_the_stored_verdicts_are_the_programs(self) -> None:
         given = os.environ.get("USBNET_PROGRAM")
-        program = Program(Path(given), given) if given else Program.find(None)
+        program = Program(Path(given).resolve(), given) if given else Program.find(None)
         if program.path != BINARY and not given:
             self.skipTest("no proved build: ./usbnet --build")
         stored = json.loads((common.STORED / "verdicts.json").read_text())
