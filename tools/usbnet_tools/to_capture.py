@@ -24,16 +24,46 @@ INTERFACES = [
 ]
 IN_PROGRESS, ARRIVED, PROTOCOL, STALL, WITHDRAWN = -115, 0, -71, -32, -104
 FAULTS = {"proto": PROTOCOL, "halt": STALL}
-FIRST_REQUEST = 0xFFFF_8880_0000_0000
+# requests have addresses in the host's memory
+FIRST_REQUEST, REQUEST_SIZE = 0xFFFF_8880_0000_0000, 0x100
+URB_DIR_IN = 0x200
+SET_UP = "set-up"
+# what EEM adds to a frame: its header, the sentinel, and perhaps the empty packet
+EEM_OVERHEAD = 8
 NO_SETUP, NOTHING_IN, NOTHING_OUT = ord("-"), ord("<"), ord(">")
 DESCRIPTORS = bytes.fromhex("8006000200")
 EPILOG = """\
 The file has three interfaces: `out` and `in` with the delivered frames, and `usb` with the transfers, as usbmon would show them at the
 host. Its times are the trace's line numbers, in seconds, and each packet has its line as a comment. An outward transfer is submitted
-where it was made (also where a sleeping link defers it) and completed where it landed (status 0), failed (proto -71, halt -32) or was cut (-104); an inward one is the
-completion of the request that `posted in` submitted. An inward transfer that is cut before it flies isn't seen at the host. Where the
-report follows the trace, its set-up stands at time 0, so that the descriptors are there.
+where it was made (also where a sleeping link defers it) and completed where it landed (status 0), failed (proto -71, halt -32) or was
+cut (-104); an inward one is the completion of the request that `posted in` submitted. An inward transfer that is cut before it flies
+isn't seen at the host. Where the report follows the trace, its set-up stands at time 0, so that the descriptors are there.
 """
+
+
+@dataclass(frozen=True)
+class Event:
+    """An event of a USB request: its submission or its completion."""
+
+    is_completion: bool
+    request: int
+    kind: Kind
+    endpoint: int
+    status: int
+    length: int
+    data: bytes = b""
+    setup: bytes = b""
+
+    def packet(self, time: int) -> bytes:
+        """The event as usbmon has it, at this second: a header of 64 bytes and the data."""
+        is_inward = bool(self.endpoint & 0x80)
+        carries = bool(self.data) or (self.kind is Kind.BULK and is_inward == self.is_completion)
+        head = struct.pack(
+            "<QBBBBHBBqiiII8siiII", self.request, ord("C" if self.is_completion else "S"), self.kind.value, self.endpoint, DEVICE, BUS,
+            0 if self.setup else NO_SETUP, 0 if carries else NOTHING_IN if is_inward else NOTHING_OUT,
+            time, 0, self.status, self.length, len(self.data), self.setup, 0, 0, URB_DIR_IN if is_inward else URB_ZERO_PACKET, 0,
+        )
+        return head + self.data
 
 
 @dataclass
@@ -58,10 +88,10 @@ class Usb:
     def set_up(self) -> None:
         """Writes the control transfers of the report's set-up, at time 0."""
         for setup, payload in self.report.controls:
-            is_read = bool(setup[0] & 0x80)
-            length = struct.unpack("<H", setup[6:8])[0]
-            request = self._submit(0, "set-up", Kind.CONTROL, 0x80 if is_read else 0, length, payload if not is_read else b"", setup)
-            self._event("C", 0, "set-up", Kind.CONTROL, request, 0x80 if is_read else 0, ARRIVED, len(payload), payload if is_read else b"")
+            endpoint = setup[0] & 0x80
+            sent, answer = (b"", payload) if endpoint else (payload, b"")
+            request = self._submit(0, SET_UP, Kind.CONTROL, endpoint, int.from_bytes(setup[6:8], "little"), sent, setup)
+            self._write(0, SET_UP, Event(True, request, Kind.CONTROL, endpoint, ARRIVED, len(payload), answer))
             if setup.startswith(DESCRIPTORS):
                 for function in functions_in(payload, BUS, DEVICE, "the report"):
                     self.out_address, self.in_address = function.out.address, function.back.address
@@ -74,7 +104,7 @@ class Usb:
 
     def posted_request(self, line: Line) -> None:
         if line.lane == "in":
-            largest = max(self.report.segment, self.report.block)
+            largest = max(self.report.segment + EEM_OVERHEAD, self.report.block)
             # one packet more, so that what fills its packets has room for the empty one
             length = (largest // self.report.packet + 1) * self.report.packet
             self.posted.append(self._submit(line.number, line.text, Kind.BULK, self.in_address, length))
@@ -95,12 +125,12 @@ class Usb:
             request = self.submitted.pop(line["serial"], None)
             if request is None:
                 raise TraceError(f"line {line.number}: {line.text!r} is of a transfer that isn't under way")
-            self._event("C", line.number, line.text, Kind.BULK, request, self.out_address, status, len(data))
+            self._write(line.number, line.text, Event(True, request, Kind.BULK, self.out_address, status, len(data)))
         elif line["serial"] in self.flying:
             self._end_inward(line, self.flying.pop(line["serial"]), status, data)
 
     def _end_inward(self, line: Line, request: int, status: int, data: bytes = b"") -> None:
-        self._event("C", line.number, line.text, Kind.BULK, request, self.in_address, status, len(data), data)
+        self._write(line.number, line.text, Event(True, request, Kind.BULK, self.in_address, status, len(data), data))
 
     def _bytes_of(self, line: Line) -> bytes:
         if (line.lane, line["serial"]) not in self.made:
@@ -113,25 +143,14 @@ class Usb:
         return self.posted.popleft()
 
     def _submit(self, time: int, comment: str, kind: Kind, endpoint: int, length: int, data: bytes = b"", setup: bytes = b"") -> int:
-        request = FIRST_REQUEST + 0x100 * self.requests
+        """Writes the submission of a new request, and answers the request."""
+        request = FIRST_REQUEST + REQUEST_SIZE * self.requests
         self.requests += 1
-        self._event("S", time, comment, kind, request, endpoint, IN_PROGRESS, length, data, setup)
+        self._write(time, comment, Event(False, request, kind, endpoint, IN_PROGRESS, length, data, setup))
         return request
 
-    def _event(
-        self, event: str, time: int, comment: str, kind: Kind, request: int, endpoint: int, status: int, length: int,
-        data: bytes = b"", setup: bytes = b"",
-    ) -> None:
-        """Writes one event, with the 64 bytes of usbmon's header."""
-        is_inward = bool(endpoint & 0x80)
-        carries = bool(data) or (is_inward == (event == "C") and kind is Kind.BULK)
-        no_data = 0 if carries else NOTHING_IN if is_inward else NOTHING_OUT
-        flags = (0 if is_inward else URB_ZERO_PACKET) | (0x200 if is_inward else 0)
-        head = struct.pack(
-            "<QBBBBHBBqiiII8siiII", request, ord(event), kind.value, endpoint, DEVICE, BUS, 0 if setup else NO_SETUP, no_data,
-            time, 0, status, length, len(data), setup, 0, 0, flags, 0,
-        )
-        self.writer.packet(USB, time * NANOSECONDS, head + data, comment)
+    def _write(self, time: int, comment: str, event: Event) -> None:
+        self.writer.packet(USB, time * NANOSECONDS, event.packet(time), comment)
 
 
 def arguments() -> argparse.ArgumentParser:
