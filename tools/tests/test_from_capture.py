@@ -3,6 +3,7 @@ from __future__ import annotations
 
 import json
 import os
+import tempfile
 import unittest
 from pathlib import Path
 
@@ -105,6 +106,15 @@ class Words(unittest.TestCase):
         for status, text in ((1, "no memory\n"), (0, "class eem\nframes 2\nframe 0 2 abcd\ncommands 3\n"), (8, ""), (127, "")):
             with self.assertRaisesRegex(ProgramError, "gave no verdict"):
                 read_verdict(status, text)
+
+    def test_many_transfers_are_asked_at_the_same_time(self) -> None:
+        asked = [("ecm", frame(index, 14 + index % 40)) for index in range(200)]
+        with tempfile.TemporaryDirectory() as room:
+            path = Path(room) / "program"
+            path.write_text("#!/bin/sh\necho bad transfer short-frame $(wc -c)\nexit 8\n")
+            path.chmod(0o700)
+            verdicts = Program(path, "test").decode(asked + asked)
+        self.assertEqual(verdicts, {one: Verdict(fault="short-frame", place=len(one[1])) for one in asked})
 
     def test_a_program_that_isnt_built_is_asked_few_transfers(self) -> None:
         with self.assertRaisesRegex(ProgramError, "9 distinct transfers, and the program isn't built"):

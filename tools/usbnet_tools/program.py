@@ -1,10 +1,11 @@
 """Asks the usbnet program what a transfer is. This module isn't proved; what the program answers is the program's."""
 from __future__ import annotations
 
+import multiprocessing
 import os
 import subprocess
 import tempfile
-from concurrent.futures import ThreadPoolExecutor
+from concurrent.futures import ProcessPoolExecutor
 from dataclasses import dataclass
 from pathlib import Path
 from typing import Iterable
@@ -15,6 +16,8 @@ BINARY = TOP / "crates" / "usbnet_run" / "out" / "usbnet_run"
 PROVED = "proved and built by"
 # each run without a build reads all sources anew: so many are bearable
 MOST_UNBUILT = 8
+# so few transfers of a built program don't pay for a pool; and how many of more are handed to a process of it at once
+FEW, CHUNK = 64, 16
 DONE, TOO_LARGE, BAD_TRANSFER = 0, 7, 8
 # what a launcher needs of the environment: the more is handed on, the more a start costs
 ENVIRONMENT = {name: os.environ[name] for name in ("PATH", "HOME", "TMPDIR", "RATTLE_HOME") if name in os.environ}
@@ -67,11 +70,15 @@ class Program:
                 f"{len(distinct)} distinct transfers, and the program isn't built: each would take a minute. "
                 f"Build it first by {LAUNCHER} --build, or say where a built one is by --program PATH"
             )
-        with ThreadPoolExecutor(os.cpu_count()) as pool:
-            return dict(zip(distinct, pool.map(lambda transfer: self._decode_one(*transfer), distinct)))
+        if len(distinct) < FEW and self.most is None:
+            return {transfer: self.decode_one(transfer) for transfer in distinct}
+        # processes, not threads: Python starts a program with its lock held, so that threads would start one after the other
+        with ProcessPoolExecutor(os.cpu_count(), multiprocessing.get_context("fork")) as pool:
+            return dict(zip(distinct, pool.map(self.decode_one, distinct, chunksize=1 if self.most else CHUNK)))
 
-    def _decode_one(self, wire: str, data: bytes) -> Verdict:
+    def decode_one(self, transfer: tuple[str, bytes]) -> Verdict:
         """Runs the program once, over files without a name: that costs less than pipes do."""
+        wire, data = transfer
         with tempfile.TemporaryFile() as given, tempfile.TemporaryFile(buffering=0) as taken:
             given.write(data)
             given.seek(0)
