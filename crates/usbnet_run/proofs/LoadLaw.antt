@@ -27,7 +27,7 @@ use Rattle.un_script.specs.Load.{load_script, load_frame, load_feed, load_lane, 
 use Rattle.un_script.specs.Table.{defaults}
 use Rattle.un_script.proofs.Loads.{load_more, load_none, count_more}
 use Rattle.un_script.proofs.Ranges.{defaults_in_range}
-use Rattle.usbnet_run.specs.Loads.{LosesNothing}
+use Rattle.usbnet_run.specs.Loads.{IsLossless}
 
 -- NOTHING IS LOST
 
@@ -184,7 +184,7 @@ lane_whole count h done lane = record {
         let d = sender_size count lane (past lane h) 3 (w.all_accepted 3) frames.3 in
         omega (arith, all, a, b, c, d)
 
-pub load_whole : (count : ℕ) (h : History) → IsDone (load_script count) h → LosesNothing count h
+pub load_whole : (count : ℕ) (h : History) → IsDone (load_script count) h → IsLossless count h
 load_whole count h done =
     let all = load_frames count in
     record {

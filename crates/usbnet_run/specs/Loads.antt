@@ -26,14 +26,14 @@ pub record IsWholeLoad (count : ℕ) (outward inward : Tally) : Type 0 where
   pub none_cut : outward.cut + inward.cut ≡ 0
   pub none_dropped : outward.dropped + inward.dropped ≡ 0
 
-abbrev pub LosesNothing : ℕ → History → Type 0
-LosesNothing count history = IsWholeLoad count (counts PACKET (past Outward history)) (counts PACKET (past Inward history))
+abbrev pub IsLossless : ℕ → History → Type 0
+IsLossless count history = IsWholeLoad count (counts PACKET (past Outward history)) (counts PACKET (past Inward history))
 
 -- a history that the workers and the last drain leave of the load's link: no step continues it, and it has the counts of its line
 pub record IsLoad (count : ℕ) (history : History) : Type 0 where
   pub is_kept : IsKept (load_script count) history
   pub is_done : IsDone (load_script count) history
-  pub is_whole : LosesNothing count history
+  pub is_whole : IsLossless count history
 
 -- the answers of a load of so many frames: the line of its history, or want of memory
 pub data Loads (count : ℕ) : Answer → Type 0 where

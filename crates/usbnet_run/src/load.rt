@@ -4,7 +4,7 @@ ghost use Rattle.std.specs.Prelude.{◌≡◌, ◌≤◌, ◌+◌, [], IfOk};
 ghost use Rattle.un_journal.specs.Fits.{Legal};
 ghost use Rattle.un_link.specs.Link.{flights_of};
 ghost use Rattle.un_script.specs.Load.{load_script};
-ghost use Rattle.usbnet_run.specs.Loads.{IsLoad, LosesNothing, IsWholeLoad, Loads, load_line};
+ghost use Rattle.usbnet_run.specs.Loads.{IsLoad, IsLossless, IsWholeLoad, Loads, load_line};
 ghost use Rattle.usbnet_run.specs.Refusals.{Does, Writes};
 
 use crate::refusal::Ending;
@@ -86,7 +86,7 @@ fn print_sums<O: Sink>(
     journal: &Journal,
 ) -> Result<(), WriteFault>
     requires legal { Legal script.now journal.now.history }
-    requires whole { LosesNothing count journal.now.history }
+    requires whole { IsLossless count journal.now.history }
     ensures writes { Writes (O.held out.old) (O.held out.new) (O.faults out.old) (O.faults out.new) (load_line count) result }
     ensures never_falls { O.faults out.old ≤ O.faults out.new }
 {
