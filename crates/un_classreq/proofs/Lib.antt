@@ -1,2 +1,2 @@
-pub mod SetupLemmas
-pub mod ControlLemmas
+mod SetupLemmas
+mod ControlLemmas

@@ -4,22 +4,6 @@ use crate::{Device, Reply, Setup, Why};
 use std::test::Fail;
 use un_frame::{Class, Params};
 
-const PARAMS: Params = Params {
-    class: Class::Ncm16,
-    segment: 1514,
-    packet: 512,
-    filter: 0x0e,
-    block: 16384,
-    datagrams: 32,
-    divisor: 4,
-    remainder: 0,
-    alignment: 4,
-    tx_out: 4,
-    rx_out: 4,
-    tx_in: 4,
-    rx_in: 4,
-};
-
 /// SET_NTB_FORMAT with 0.
 const SET_FORMAT: [u8; 8] = [0x21, 0x84, 0, 0, 0, 0, 0, 0];
 
@@ -36,7 +20,7 @@ fn stalled(reply: Reply) -> Option<Why> {
 
 #[test]
 fn stalls(rt: HostRuntime) -> Result<(), Fail> {
-    let mut ncm = Device::make(rt.alloc(), &PARAMS)?;
+    let mut ncm = Device::make(rt.alloc(), &Params::of_class(Class::Ncm16))?;
     let interface = ncm.control(rt.alloc(), &Setup::from_bytes(&SET_INTERFACE), &[]);
     assert_eq!(rt; stalled(interface), None);
     let format = Setup::from_bytes(&SET_FORMAT);
@@ -45,13 +29,7 @@ fn stalls(rt: HostRuntime) -> Result<(), Fail> {
         stalled(ncm.control(rt.alloc(), &format, &[])),
         Some(Why::State)
     );
-    let mut ecm = Device::make(
-        rt.alloc(),
-        &Params {
-            class: Class::Ecm,
-            ..PARAMS
-        },
-    )?;
+    let mut ecm = Device::make(rt.alloc(), &Params::of_class(Class::Ecm))?;
     assert_eq!(rt;
         stalled(ecm.control(rt.alloc(), &format, &[])),
         Some(Why::Unknown)
@@ -61,7 +39,7 @@ fn stalls(rt: HostRuntime) -> Result<(), Fail> {
 
 #[test]
 fn sends_what_is_asked_for(rt: HostRuntime) -> Result<(), Fail> {
-    let mut device = Device::make(rt.alloc(), &PARAMS)?;
+    let mut device = Device::make(rt.alloc(), &Params::of_class(Class::Ncm16))?;
     let asked = Setup::from_bytes(&[0xa1, 0x80, 0, 0, 0, 0, 6, 0]);
     match device.control(rt.alloc(), &asked, &[]) {
         Reply::Sent(bytes) => {

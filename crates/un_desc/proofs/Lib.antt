@@ -1,3 +1,3 @@
-pub mod WalkLemmas
-pub mod PartLemmas
+mod WalkLemmas
+mod PartLemmas
 pub mod Built

@@ -13,41 +13,13 @@ const ECM: [u8; 80] = [
     0x00, 0x00, 0x07, 0x05, 0x81, 0x02, 0x00, 0x02, 0x00, 0x07, 0x05, 0x01, 0x02, 0x00, 0x02, 0x00,
 ];
 
-const PARAMS: Params = Params {
-    class: Class::Ecm,
-    segment: 1514,
-    packet: 512,
-    filter: 0x0f,
-    block: 16384,
-    datagrams: 32,
-    divisor: 4,
-    remainder: 0,
-    alignment: 4,
-    tx_out: 4,
-    rx_out: 4,
-    tx_in: 4,
-    rx_in: 4,
-};
-
 #[test]
 fn builds_the_bytes(rt: HostRuntime) -> Result<(), Fail> {
-    let ecm = build(rt.alloc(), &PARAMS)?;
+    let ecm = build(rt.alloc(), &Params::of_class(Class::Ecm))?;
     assert_eq!(rt; ecm.as_slice(), ECM.as_slice());
-    let eem = build(
-        rt.alloc(),
-        &Params {
-            class: Class::Eem,
-            ..PARAMS
-        },
-    )?;
+    let eem = build(rt.alloc(), &Params::of_class(Class::Eem))?;
     assert_eq!(rt; eem.as_slice().len(), 32);
-    let ncm = build(
-        rt.alloc(),
-        &Params {
-            class: Class::Ncm32,
-            ..PARAMS
-        },
-    )?;
+    let ncm = build(rt.alloc(), &Params::of_class(Class::Ncm32))?;
     assert_eq!(rt; ncm.as_slice().len(), 86);
     Ok(())
 }

@@ -1,4 +1,4 @@
-pub mod Steps
-pub mod Reading
-pub mod Lending
-pub mod FrameSteps
+mod Steps
+mod Reading
+mod Lending
+mod FrameSteps

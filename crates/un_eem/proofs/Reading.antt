@@ -2,7 +2,7 @@
 use Rattle.std.proofs.Common.{◌≡◌, ℕ, zero, suc, ◌+◌, ◌-◌, ◌^◌, ◌<◌, ◌≤◌, true, false, nat_lt, nat_le, ◌==◌, List, [], ◌∷◌, ◌++◌, length, take, drop, map, flat_map, None, refl, sym, ap, ◌∙◌, subst, arith, append_assoc, length-append, take_at, drop_at}
 use Rattle.std.proofs.lemmas.Bool.Decides.{nat_tests}
 use Rattle.std.specs.List.{AllByRecursion}
-use Rattle.un_frame.proofs.PartLemmas.{data_end, command_end, empty_end}
+use Rattle.un_frame.proofs.EemPlaces.{data_end, command_end, empty_end}
 use Rattle.un_frame.specs.declared.params.Class.TheVariants.{Eem}
 use Rattle.un_frame.specs.Bytes.{AreBytes, number_at, number_bytes, slice_at}
 use Rattle.un_frame.specs.Eem.{Packet, Data, Command, Empty, SENTINEL, IsPacket, command_count, echo_length, eem_fault, frame_places, packet_bytes, packet_size}

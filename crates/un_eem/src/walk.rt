@@ -22,7 +22,7 @@ pub fn begin(bytes: &[u8]) -> Result<usize, Fault>
     ensures fault { fault_in result ≡ fault_of Eem bytes.now }
 {
     check(bytes)?;
-    Ok(settle(bytes, 0))
+    Ok(skip_commands(bytes, 0))
 }
 
 /// Lends the frame of the packet at the place; `None` exactly where no frame is left.
@@ -46,7 +46,7 @@ pub fn next(bytes: &[u8], at: usize) -> usize
     if bytes.len() <= at {
         return at;
     }
-    settle(bytes, after(bytes, at))
+    skip_commands(bytes, after(bytes, at))
 }
 
 /// How many commands a transfer without a fault has.
@@ -65,7 +65,7 @@ pub fn commands(bytes: &[u8]) -> u64
 
 /// The place of the first data packet from a place on, or the transfer's end.
 #[tactic(auto, using(crate::proofs::FrameSteps::frames_skip, crate::proofs::FrameSteps::frames_end))]
-fn settle(bytes: &[u8], at: usize) -> usize
+fn skip_commands(bytes: &[u8], at: usize) -> usize
     requires { IsSound bytes.now at }
     ensures on { IsOn bytes.now result }
     ensures same { frames_from bytes.now result ≡ frames_from bytes.now at }

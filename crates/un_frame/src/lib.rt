@@ -17,4 +17,4 @@ pub use laws::{
     faults_are_exact, forms_are_read, forms_are_short, open_transfers, parts_are_frames,
     readings_are_one, segments_fit, taken_frames,
 };
-pub use params::{Class, Lane, Params};
+pub use params::{Class, Lane, Params, TIMER_TICKS};

@@ -8,7 +8,7 @@ use Rattle.un_frame.specs.Wire.{ReadsAt, fault_of}
 use Rattle.un_frame.proofs.NtbLemmas.{IsFormat}
 use Rattle.un_frame.proofs.NtbCursorLemmas.{ntb16_known, ntb32_known}
 use Rattle.un_frame.proofs.NtbFormReads.{IsWritable}
-use Rattle.un_frame.proofs.WireLemmas.{ntb16_writable, ntb32_writable}
+use Rattle.un_frame.proofs.NtbLaws.{ntb16_writable, ntb32_writable}
 use Rattle.un_ntb.specs.Formats.{format_of, class_of}
 
 -- a fact of both formats is one of the format with either width
@@ -29,7 +29,7 @@ pub record IsSmall (f : Format) : Type 0 where
   pub width : (2 ≤ f.width) × (f.width ≤ 4)
   pub header : (12 ≤ f.header) × (f.header ≤ 16)
   pub head : (8 ≤ f.head) × (f.head ≤ 16)
-  pub next : f.next ≤ 8
+  pub next : f.next_ndp_index ≤ 8
   pub pair : (4 ≤ f.pair) × (f.pair ≤ 8)
 
 pub format_small : (width : ℕ) → IsSmall (format_of width)

@@ -1,2 +1,2 @@
 pub mod FormatLemmas
-pub mod WriterLemmas
+mod WriterLemmas

@@ -18,8 +18,8 @@ ghost use Rattle.un_frame.specs.Ntb.{
 ghost use Rattle.un_ntb.specs.Formats.{format_of};
 
 use crate::fields::{
-    MOST_TABLES, block_signature, first, head, header, is_checked, next, number, pair, short,
-    signature, table_signature, width,
+    MOST_TABLES, block_signature, head, header, is_checked, ndp_index, next_ndp_index, number,
+    pair, short, signature, table_signature, width,
 };
 use un_frame::{Fault, Kind};
 
@@ -146,17 +146,17 @@ fn is_seen(seen: &[usize], at: usize) -> bool
 #[tactic(auto, using(un_frame::proofs::NtbSteps::tables_none, un_frame::proofs::NtbSteps::tables_seen, un_frame::proofs::NtbSteps::tables_bad, un_frame::proofs::NtbSteps::tables_end, un_frame::proofs::NtbSteps::tables_go))]
 fn check_tables<const WIDTH: usize>(block: &[u8]) -> Result<(), Fault>
     requires { (format_of WIDTH).header ≤ length block.now }
-    ensures { fault_in result ≡ tables_fault (format_of WIDTH) block.now 32 [] (format_of WIDTH).first }
+    ensures { fault_in result ≡ tables_fault (format_of WIDTH) block.now 32 [] (format_of WIDTH).ndp_index }
 {
     let mut seen = [0usize; MOST_TABLES];
-    let mut field = first::<WIDTH>();
+    let mut field = ndp_index::<WIDTH>();
     for count in 0..MOST_TABLES {
         let at = number::<WIDTH>(block, field);
         if is_seen(&seen[..count], at) {
             return Err(fault(Kind::NdpLoop, field));
         }
         check_table::<WIDTH>(block, field, at)?;
-        field = at + next::<WIDTH>();
+        field = at + next_ndp_index::<WIDTH>();
         if number::<WIDTH>(block, field) == 0 {
             return Ok(());
         }

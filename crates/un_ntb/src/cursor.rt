@@ -6,7 +6,7 @@ ghost use Rattle.un_ntb.specs.Cursor.{IsIn, left};
 ghost use Rattle.un_ntb.specs.Formats.{format_of};
 
 use crate::checks::{is_null, pair_count};
-use crate::fields::{head, next, number, short};
+use crate::fields::{head, next_ndp_index, number, short};
 
 /// A place in the datagrams of a block: so many pairs of a table are left from the one at `pair`, and
 /// at most so many tables after it from the one at `table`, where 0 is none.
@@ -32,13 +32,13 @@ fn open<const WIDTH: usize>(block: &[u8], cursor: Cursor) -> Cursor
     Cursor {
         pair: cursor.table + head::<WIDTH>(),
         pairs: pair_count::<WIDTH>(short(block, cursor.table + 4)),
-        table: number::<WIDTH>(block, cursor.table + next::<WIDTH>()),
+        table: number::<WIDTH>(block, cursor.table + next_ndp_index::<WIDTH>()),
         tables: cursor.tables - 1,
     }
 }
 
 /// The cursor at the next datagram, or with no pair left where there is none.
-pub fn settle<const WIDTH: usize>(block: &[u8], cursor: Cursor) -> Cursor
+pub fn skip_ended<const WIDTH: usize>(block: &[u8], cursor: Cursor) -> Cursor
     requires { IsIn (format_of WIDTH) block.now cursor }
     ensures sound { IsIn (format_of WIDTH) block.now result }
     ensures same { left (format_of WIDTH) block.now result ≡ left (format_of WIDTH) block.now cursor }

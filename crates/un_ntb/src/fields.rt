@@ -18,7 +18,7 @@ pub fn width<const WIDTH: usize>() -> usize
     if WIDTH == 2 { 2 } else { 4 }
 }
 
-/// The bytes of a block's header.
+/// The bytes of a block's header (wHeaderLength).
 pub fn header<const WIDTH: usize>() -> usize
     ensures value { result ≡ (format_of WIDTH).header }
     ensures fields { result ≡ 8 + 2 * (format_of WIDTH).width }
@@ -27,9 +27,9 @@ pub fn header<const WIDTH: usize>() -> usize
     if WIDTH == 2 { 12 } else { 16 }
 }
 
-/// The place of the first table's index.
-pub fn first<const WIDTH: usize>() -> usize
-    ensures value { result ≡ (format_of WIDTH).first }
+/// The place of the first table's index (wNdpIndex, dwNdpIndex) in a header.
+pub fn ndp_index<const WIDTH: usize>() -> usize
+    ensures value { result ≡ (format_of WIDTH).ndp_index }
     ensures inside { result + (format_of WIDTH).width ≡ (format_of WIDTH).header }
     ensures range { result ≤ 12 }
 {
@@ -44,16 +44,16 @@ pub fn head<const WIDTH: usize>() -> usize
     if WIDTH == 2 { 8 } else { 16 }
 }
 
-/// The place of the next table's index in a table.
-pub fn next<const WIDTH: usize>() -> usize
-    ensures value { result ≡ (format_of WIDTH).next }
+/// The place of the next table's index (wNextNdpIndex, dwNextNdpIndex) in a table.
+pub fn next_ndp_index<const WIDTH: usize>() -> usize
+    ensures value { result ≡ (format_of WIDTH).next_ndp_index }
     ensures inside { result + (format_of WIDTH).width ≤ (format_of WIDTH).head }
     ensures range { (6 ≤ result) × (result ≤ 8) }
 {
     if WIDTH == 2 { 6 } else { 8 }
 }
 
-/// The bytes of a pair.
+/// The bytes of a pair: a datagram's index and length (wDatagramIndex, wDatagramLength, or dw).
 pub fn pair<const WIDTH: usize>() -> usize
     ensures value { result ≡ (format_of WIDTH).pair }
     ensures fields { result ≡ 2 * (format_of WIDTH).width }

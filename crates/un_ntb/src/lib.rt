@@ -5,7 +5,6 @@
 mod checks;
 mod cursor;
 mod fields;
-mod lending;
 mod parts;
 mod table;
 mod walk;

@@ -6,8 +6,8 @@ ghost use Rattle.un_frame.specs.Wire.{Reads, fault_of};
 ghost use Rattle.un_ntb.specs.Formats.{class_of};
 
 use crate::checks::{block, check, datagram};
-use crate::cursor::{Cursor, settle};
-use crate::fields::{MOST_TABLES, first, number, pair};
+use crate::cursor::{Cursor, skip_ended};
+use crate::fields::{MOST_TABLES, ndp_index, number, pair};
 use std::marker::Model;
 use un_frame::Fault;
 
@@ -45,7 +45,7 @@ pub fn read<const WIDTH: usize>(bytes: &[u8]) -> Result<Parts<'_, WIDTH>, Fault>
         cursor: Cursor {
             pair: 0,
             pairs: 0,
-            table: number::<WIDTH>(block, first::<WIDTH>()),
+            table: number::<WIDTH>(block, ndp_index::<WIDTH>()),
             tables: MOST_TABLES,
         },
     })
@@ -57,7 +57,7 @@ impl<'a, const WIDTH: usize> Parts<'a, WIDTH> {
         ensures part { IfSome result (λ frame. self.old ≡ frame.now ∷ self.new) }
         ensures end { IfNone result ((self.old ≡ []) × (self.new ≡ [])) }
     {
-        let cursor = settle::<WIDTH>(self.block, self.cursor);
+        let cursor = skip_ended::<WIDTH>(self.block, self.cursor);
         if cursor.pairs == 0 {
             return None;
         }

@@ -108,7 +108,7 @@ fn closing<const WIDTH: usize>(sequence: u16, size: u32, table: u32) -> [u8; 10]
 }
 
 /// Whether a block of so many datagrams that end at `end` fits.
-#[tactic(auto, using(un_layout::proofs::Near::multiple_near))]
+#[tactic(auto, using(un_frame::proofs::NtbFormLemmas::least_multiple_near))]
 pub fn closed_fits<const WIDTH: usize>(
     end: u32,
     count: u32,

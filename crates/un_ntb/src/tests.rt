@@ -72,6 +72,18 @@ fn frames_read<const WIDTH: usize>(bytes: &[u8], frame: &[u8]) -> Option<u32> {
     None
 }
 
+/// How long the first datagram of the block in a request is, which is then emptied: a part is lent until its bytes are given
+/// up, and no longer (must-fail/part_outlives_its_bytes.md keeps one past that, and the compiler refuses it).
+fn look_and_clear(request: &mut Request) -> usize {
+    let part = match read::<2>(request.bytes()) {
+        Ok(mut parts) => parts.next(),
+        Err(_) => None,
+    };
+    let length = part.map_or(0, |bytes| bytes.len());
+    request.clear();
+    length
+}
+
 /// The frame of the block above with zeros after it, to 1,514 bytes.
 fn long_frame() -> [u8; 1514] {
     let mut frame = [0u8; 1514];
@@ -105,6 +117,7 @@ fn builds_blocks_of_16_bits(rt: HostRuntime) -> Result<(), Fail> {
     assert!(rt; !another, "two frames of 1,514 bytes in a block of 2,048");
     assert!(rt; request.bytes().len() == 1544);
     assert!(rt; request.bytes()[6..].starts_with(&[1, 0]));
+    assert_eq!(rt; look_and_clear(&mut request), 1514);
     Ok(())
 }
 

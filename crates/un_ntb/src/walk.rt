@@ -8,8 +8,8 @@ ghost use Rattle.un_ntb.specs.Formats.{class_of, format_of};
 ghost use Rattle.un_ntb.specs.Walk.{IsOn, parts_left};
 
 use crate::checks::{block, check, datagram};
-use crate::cursor::{Cursor, settle};
-use crate::fields::{MOST_TABLES, first, number, pair};
+use crate::cursor::{Cursor, skip_ended};
+use crate::fields::{MOST_TABLES, ndp_index, number, pair};
 use un_frame::Fault;
 
 /// The cursor at the first datagram of a transfer, or the first fault with its place. The whole transfer is checked first.
@@ -23,10 +23,10 @@ pub fn begin<const WIDTH: usize>(bytes: &[u8]) -> Result<Cursor, Fault>
     let cursor = Cursor {
         pair: 0,
         pairs: 0,
-        table: number::<WIDTH>(block, first::<WIDTH>()),
+        table: number::<WIDTH>(block, ndp_index::<WIDTH>()),
         tables: MOST_TABLES,
     };
-    Ok(settle::<WIDTH>(block, cursor))
+    Ok(skip_ended::<WIDTH>(block, cursor))
 }
 
 /// Lends the datagram at the cursor; `None` exactly where none is left.
@@ -55,5 +55,5 @@ pub fn next<const WIDTH: usize>(bytes: &[u8], cursor: Cursor) -> Cursor
         pairs: cursor.pairs - 1,
         ..cursor
     };
-    settle::<WIDTH>(block::<WIDTH>(bytes), after)
+    skip_ended::<WIDTH>(block::<WIDTH>(bytes), after)
 }

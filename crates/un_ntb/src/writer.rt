@@ -140,7 +140,7 @@ impl<const WIDTH: usize> Writer<WIDTH> {
 
     /// Whether a frame of this length fits the open block: with it the closed block is at most `block` bytes, its table at
     /// most 65,535, and the datagrams are within the limit. With no open block, whether it fits a new one.
-    #[tactic(auto, using(un_layout::proofs::Near::place_near))]
+    #[tactic(auto, using(un_frame::proofs::NtbFormLemmas::least_place_near))]
     pub fn fits(&self, length: u32) -> bool
         ensures fits { result ≡ block_fits (format_of WIDTH) self.now.layout self.now.block self.now.limit (self.now.sizes ++ length ∷ []) }
         ensures nothing_open { self.now.is_open ≡ false → result ≡ block_fits (format_of WIDTH) self.now.layout self.now.block self.now.limit (length ∷ []) }
@@ -158,7 +158,7 @@ impl<const WIDTH: usize> Writer<WIDTH> {
 
     /// Appends a frame of 14 bytes at least that fits the open block, with zeros before it up to its place. The request's
     /// bytes are those that the last call left: the header and the datagrams so far.
-    #[tactic(auto, using(un_layout::proofs::Near::place_near))]
+    #[tactic(auto, using(un_frame::proofs::NtbFormLemmas::least_place_near))]
     pub fn append(&mut self, request: &mut Request, frame: &[u8])
         requires opened { self.old.is_open ≡ true }
         requires least { 14 ≤ length frame.now }
@@ -182,7 +182,7 @@ impl<const WIDTH: usize> Writer<WIDTH> {
 
     /// Ends the open block, which has a datagram at least: appends its table at its place and writes the fields of the
     /// header that were left at 0, the sequence number among them, which is the serial modulo 65,536.
-    #[tactic(auto, using(un_layout::proofs::Near::multiple_near))]
+    #[tactic(auto, using(un_frame::proofs::NtbFormLemmas::least_multiple_near))]
     pub fn close(&mut self, request: &mut Request, serial: u64)
         requires opened { self.old.is_open ≡ true }
         requires some { 0 < length self.old.sizes }

@@ -17,13 +17,15 @@ use Rattle.un_script.specs.declared.why.Why.{Why}
 use Rattle.un_script.specs.declared.why.Why.TheVariants.{Word, Order, Number, Range, Hex, Count, Control, Fault}
 use Rattle.un_script.specs.Words.{is_spelled, lines_of, is_skipped, has_no_byte}
 use Rattle.un_script.specs.Numbers.{number_of, bytes_of, byte_of}
-use Rattle.un_script.specs.Table.{control_named, parameter_named, place_of, is_allowed, is_filter, is_pool_size, is_sender, is_want, is_planned_serial, may_follow, with_number, CLASS_PLACE, FILTER_PLACE, REQUESTS_PLACE, BODY_PLACE, MOST_FRAMES, MOST_CONTROLS, MOST_FAULTS, defaults}
+use Rattle.un_frame.specs.Params.{defaults}
+use Rattle.un_script.specs.Table.{control_named, parameter_named, place_of, is_allowed, is_filter, is_pool_size, is_sender, is_want, is_planned_serial, may_follow, with_number, CLASS_PLACE, FILTER_PLACE, REQUESTS_PLACE, BODY_PLACE, MOST_FRAMES, MOST_CONTROLS, MOST_FAULTS}
 use Rattle.un_script.specs.Parts.{HasBytes, empty_script, with_frame, may_come}
 use Rattle.un_script.specs.Ready.{IsReady}
 use Rattle.un_script.specs.Reading.{Reading, placed, now_at, class_line, number_line, filter_line, requests_line, frame_line, control_line, fault_line, due_at, unlink_named, words_read, line_read, at_line, lines_read, nothing_read, script_of}
 use Rattle.un_script.specs.Law.{ReadScriptsAreReady}
 use Rattle.un_script.proofs.Decoded.{decoded_some}
-use Rattle.un_script.proofs.Ranges.{defaults_in_range, number_in_range, filter_in_range, pools_in_range, with_pools}
+use Rattle.un_frame.proofs.Defaults.{defaults_in_range}
+use Rattle.un_script.proofs.Ranges.{number_in_range, filter_in_range, pools_in_range, with_pools}
 use Rattle.un_script.proofs.Readiness.{empty_ready, params_ready, frame_ready, control_ready, fault_ready}
 
 -- what passes a test goes on

@@ -1,9 +1,9 @@
-pub mod Cuts
-pub mod Decoded
-pub mod Heard
-pub mod Ranges
-pub mod States
-pub mod Readiness
-pub mod LawLemmas
+mod Cuts
+mod Decoded
+mod Heard
+mod Ranges
+mod States
+mod Readiness
+mod LawLemmas
 pub mod Loads
-pub mod Plans
+mod Plans

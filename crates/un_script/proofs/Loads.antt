@@ -10,7 +10,7 @@ use Rattle.un_frame.specs.declared.params.Lane.{Lane}
 use Rattle.un_frame.specs.declared.params.Lane.TheVariants.{Outward, Inward}
 use Rattle.un_journal.specs.Script.{Frame, Feeds, Script, frame_count}
 use Rattle.un_script.specs.Parts.{frame_added, with_frame, empty_script}
-use Rattle.un_script.specs.Table.{defaults}
+use Rattle.un_frame.specs.Params.{defaults}
 use Rattle.un_script.specs.Load.{load_lane, load_sender, load_body, load_frame, is_from, load_feed, load_feeds, load_script}
 use Rattle.un_script.proofs.Readiness.{one_more}
 

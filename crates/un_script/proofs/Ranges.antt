@@ -1,4 +1,4 @@
--- The parameters where no line says others are in their ranges, and stay there with each line.
+-- Parameters stay in their ranges with each line that names one.
 use Rattle.std.proofs.Common.{◌≡◌, ℕ, ◌≤◌, true, ◌&&◌, nat_le, refl, lit≤, arith}
 use Rattle.std.proofs.lemmas.Bool.{and_parts}
 use Rattle.std.proofs.lemmas.Bool.Decides.{nat_tests}
@@ -9,13 +9,7 @@ use Rattle.un_frame.specs.declared.params.Params.{Params}
 use Rattle.un_frame.specs.Params.{AreInRange}
 use Rattle.un_script.specs.declared.table.Parameter.{Parameter}
 use Rattle.un_script.specs.declared.table.Parameter.TheVariants.{Segment, Packet, Block, Datagrams, Divisor, Remainder, Alignment}
-use Rattle.un_script.specs.Table.{defaults, is_allowed, is_filter, is_pool_size, with_number}
-
-pub defaults_in_range : (class : Class) → AreInRange (defaults class)
-defaults_in_range Ecm = record { segment = (lit≤ tt, lit≤ tt); packet = refl; filter = lit≤ tt; block = (lit≤ tt, lit≤ tt); datagrams = lit≤ tt; divisor = (lit≤ tt, lit≤ tt); remainder = lit≤ tt; alignment = (lit≤ tt, lit≤ tt); tx_out = (lit≤ tt, lit≤ tt); rx_out = (lit≤ tt, lit≤ tt); tx_in = (lit≤ tt, lit≤ tt); rx_in = (lit≤ tt, lit≤ tt) }
-defaults_in_range Eem = record { segment = (lit≤ tt, lit≤ tt); packet = refl; filter = lit≤ tt; block = (lit≤ tt, lit≤ tt); datagrams = lit≤ tt; divisor = (lit≤ tt, lit≤ tt); remainder = lit≤ tt; alignment = (lit≤ tt, lit≤ tt); tx_out = (lit≤ tt, lit≤ tt); rx_out = (lit≤ tt, lit≤ tt); tx_in = (lit≤ tt, lit≤ tt); rx_in = (lit≤ tt, lit≤ tt) }
-defaults_in_range Ncm16 = record { segment = (lit≤ tt, lit≤ tt); packet = refl; filter = lit≤ tt; block = (lit≤ tt, lit≤ tt); datagrams = lit≤ tt; divisor = (lit≤ tt, lit≤ tt); remainder = lit≤ tt; alignment = (lit≤ tt, lit≤ tt); tx_out = (lit≤ tt, lit≤ tt); rx_out = (lit≤ tt, lit≤ tt); tx_in = (lit≤ tt, lit≤ tt); rx_in = (lit≤ tt, lit≤ tt) }
-defaults_in_range Ncm32 = record { segment = (lit≤ tt, lit≤ tt); packet = refl; filter = lit≤ tt; block = (lit≤ tt, lit≤ tt); datagrams = lit≤ tt; divisor = (lit≤ tt, lit≤ tt); remainder = lit≤ tt; alignment = (lit≤ tt, lit≤ tt); tx_out = (lit≤ tt, lit≤ tt); rx_out = (lit≤ tt, lit≤ tt); tx_in = (lit≤ tt, lit≤ tt); rx_in = (lit≤ tt, lit≤ tt) }
+use Rattle.un_script.specs.Table.{is_allowed, is_filter, is_pool_size, with_number}
 
 pub both_ends : (low high n : ℕ) → is_between low high n ≡ true → (low ≤ n) × (n ≤ high)
 both_ends low high n h = let p = and_parts (nat_le low n) (nat_le n high) h in (grind (arith, nat_tests, p.0), grind (arith, nat_tests, p.1))

@@ -8,7 +8,7 @@ use Rattle.un_frame.specs.declared.kinds.FaultKind.TheVariants.{Halt}
 use Rattle.un_journal.specs.declared.controls.Control.TheVariants.{Unlink}
 use Rattle.un_script.specs.declared.why.Why.TheVariants.{Word, Control}
 use Rattle.un_script.specs.Words.{lines_of}
-use Rattle.un_script.specs.Table.{defaults}
+use Rattle.un_frame.specs.Params.{defaults}
 use Rattle.un_script.specs.Parts.{state_from, empty_script}
 use Rattle.un_script.specs.Reading.{script_of, lines_read, line_read}
 

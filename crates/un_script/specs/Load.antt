@@ -7,7 +7,7 @@ use Rattle.un_frame.specs.declared.params.Class.TheVariants.{Ncm16}
 use Rattle.un_frame.specs.declared.params.Lane.{Lane}
 use Rattle.un_frame.specs.declared.params.Lane.TheVariants.{Outward, Inward}
 use Rattle.un_journal.specs.Script.{Frame, Feeds, Script}
-use Rattle.un_script.specs.Table.{defaults}
+use Rattle.un_frame.specs.Params.{defaults}
 
 -- frames go outward and inward in turn
 abbrev pub load_lane : ℕ → Lane

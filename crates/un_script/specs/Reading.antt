@@ -20,7 +20,8 @@ use Rattle.un_script.specs.declared.why.ScriptError.TheVariants as errors
 use Rattle.un_script.specs.declared.why.ScriptError.TheVariants.{BadLine}
 use Rattle.un_script.specs.Words.{lines_of, is_skipped, is_spelled}
 use Rattle.un_script.specs.Numbers.{number_of, bytes_of, byte_of}
-use Rattle.un_script.specs.Table.{control_named, parameter_named, CLASS_PLACE, FILTER_PLACE, REQUESTS_PLACE, BODY_PLACE, place_of, may_follow, is_allowed, is_filter, is_pool_size, is_sender, is_want, is_planned_serial, MOST_FRAMES, MOST_CONTROLS, MOST_FAULTS, defaults, with_number}
+use Rattle.un_frame.specs.Params.{defaults}
+use Rattle.un_script.specs.Table.{control_named, parameter_named, CLASS_PLACE, FILTER_PLACE, REQUESTS_PLACE, BODY_PLACE, place_of, may_follow, is_allowed, is_filter, is_pool_size, is_sender, is_want, is_planned_serial, MOST_FRAMES, MOST_CONTROLS, MOST_FAULTS, with_number}
 use Rattle.un_script.specs.Parts.{empty_script, with_frame, where_some, may_come}
 
 -- what was read so far, and the place of the last line that was read, or 0

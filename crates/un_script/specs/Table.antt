@@ -96,24 +96,7 @@ MOST_CONTROLS = 256
 abbrev pub MOST_FAULTS : ℕ
 MOST_FAULTS = 1024
 
--- THE DEFAULTS
-
-abbrev pub defaults : Class → Params
-defaults class = record {
-  class = class;
-  segment = 1514;
-  packet = 512;
-  filter = 0x0e;
-  block = 16384;
-  datagrams = 32;
-  divisor = 4;
-  remainder = 0;
-  alignment = 4;
-  tx_out = 8;
-  rx_out = 8;
-  tx_in = 8;
-  rx_in = 8;
-}
+-- A LINE'S NUMBER IN ITS PLACE
 
 abbrev pub with_number : Parameter → ℕ → Params → Params
 with_number Segment n p = record p { segment = n }

@@ -12,12 +12,12 @@ use crate::numbers::{byte, number};
 use crate::script::Script;
 use crate::state::state_after;
 use crate::table::{
-    control_named, defaults, is_allowed, is_filter, is_pool_size, may_follow, parameter_named,
-    place_of, unlink_named, with_number,
+    control_named, is_allowed, is_filter, is_pool_size, may_follow, parameter_named, place_of,
+    unlink_named, with_number,
 };
 use crate::why::{Refused, ScriptError, Why};
 use std::alloc::Global;
-use un_frame::{Bytes, Class};
+use un_frame::{Bytes, Class, Params};
 use un_journal::{Control, Due};
 use un_text::{class_named, cut_word, decode, fault_kind_named, is, lane_named};
 
@@ -37,7 +37,6 @@ fn refuse(why: Why) -> Result<u8, Refused>
 }
 
 /// `class C`
-#[tactic(auto, using(crate::proofs::Ranges::defaults_in_range))]
 fn class_line(alloc: Global, script: &mut Script, place: u8, class: &[u8]) -> Result<u8, Refused>
     ensures { Gives (λ next. now_at next script.new) result (Rattle.un_script.specs.Reading.class_line (now_at place script.old) class.now) }
 {
@@ -47,7 +46,7 @@ fn class_line(alloc: Global, script: &mut Script, place: u8, class: &[u8]) -> Re
     if !may_follow(place, CLASS) {
         return refuse(Why::Order);
     }
-    *script = Script::make(alloc, defaults(class));
+    *script = Script::make(alloc, Params::of_class(class));
     Ok(CLASS)
 }
 
@@ -65,7 +64,7 @@ fn number_line(script: &mut Script, place: u8, key: &[u8], n: &[u8]) -> Result<u
     let Some(n) = number(n) else {
         return refuse(Why::Number);
     };
-    script.is_ready();
+    script.prove_ready();
     let params = *script.params();
     if !is_allowed(params.class, parameter, n) {
         return refuse(Why::Range);
@@ -88,7 +87,7 @@ fn filter_line(script: &mut Script, place: u8, x: &[u8]) -> Result<u8, Refused>
     if !is_filter(filter) {
         return refuse(Why::Range);
     }
-    script.is_ready();
+    script.prove_ready();
     let mut params = *script.params();
     params.filter = filter;
     script.set_params(params);
@@ -129,7 +128,7 @@ fn requests_line(
     {
         return refuse(Why::Range);
     }
-    script.is_ready();
+    script.prove_ready();
     let mut params = *script.params();
     params.tx_out = tx_out as u32;
     params.rx_out = rx_out as u32;
@@ -363,11 +362,11 @@ fn read_five(
 /// # Errors
 ///
 /// `BadLine` at the first line that is refused, with the first reason that applies; `NoMemory` where there is no memory for the script.
-#[tactic(auto, using(crate::proofs::Ranges::defaults_in_range), unfolding(crate::specs::Reading::lines_read, crate::specs::Reading::script_of, crate::specs::Words::lines_of))]
+#[tactic(auto, unfolding(crate::specs::Reading::lines_read, crate::specs::Reading::script_of, crate::specs::Words::lines_of))]
 pub fn read(alloc: Global, bytes: &[u8]) -> Result<Script, ScriptError>
     ensures { ReadGives (λ s. s) result (script_of bytes.now) }
 {
-    let mut script = Script::make(alloc, defaults(Class::Ecm));
+    let mut script = Script::make(alloc, Params::of_class(Class::Ecm));
     let mut place = 0;
     let mut number = 1;
     let mut rest = bytes;

@@ -129,7 +129,7 @@ impl Script {
     }
 
     /// What each script has: its parameters are in their ranges, each frame has bytes, each control can follow the earlier ones and waits for 0 to 65,536 datagrams, each planned fault has a serial of 0 to 65,535, no lane and serial has two faults, and there are no more of each than it may have.
-    pub fn is_ready(&self)
+    pub fn prove_ready(&self)
         ensures { IsReady self.now }
     {
         let _frames = self.frames;

@@ -1,8 +1,7 @@
-//! The words, places and ranges of a script's lines, and the parameters where no line says others.
+//! The words, places and ranges of a script's lines.
 
 ghost use Rattle.std.specs.Prelude.{◌≡◌, ◌<◌, ◌^◌, IsTrue};
-ghost use Rattle.un_frame.specs.Params.{most_block};
-ghost use Rattle.un_script.specs.Table.{control_named, parameter_named, place_of, may_follow, is_allowed, is_filter, is_pool_size, with_number, defaults};
+ghost use Rattle.un_script.specs.Table.{control_named, parameter_named, place_of, may_follow, is_allowed, is_filter, is_pool_size, with_number};
 ghost use Rattle.un_script.specs.Reading.{unlink_named};
 
 use un_frame::{Class, Params};
@@ -102,16 +101,6 @@ pub fn may_follow(last: u8, place: u8) -> bool
     }
 }
 
-/// The largest block of a class.
-fn most_block(class: Class) -> u64
-    ensures { result ≡ Rattle.un_frame.specs.Params.most_block class }
-{
-    match class {
-        Class::Ncm16 => 65535,
-        Class::Ecm | Class::Eem | Class::Ncm32 => 262144,
-    }
-}
-
 /// Whether a parameter may have this value.
 pub fn is_allowed(class: Class, parameter: Parameter, n: u64) -> bool
     ensures { result ≡ Rattle.un_script.specs.Table.is_allowed class parameter n }
@@ -119,7 +108,7 @@ pub fn is_allowed(class: Class, parameter: Parameter, n: u64) -> bool
     match parameter {
         Parameter::Segment => 60 <= n && n <= 8192,
         Parameter::Packet => [8, 16, 32, 64, 128, 256, 512, 1024].contains(&n),
-        Parameter::Block => 2048 <= n && n <= most_block(class),
+        Parameter::Block => 2048 <= n && n <= class.most_block() as u64,
         Parameter::Datagrams => n <= 1024,
         Parameter::Divisor => 1 <= n && n <= 64,
         Parameter::Remainder => n <= 63,
@@ -156,25 +145,4 @@ pub fn with_number(parameter: Parameter, n: u32, params: Params) -> Params
         Parameter::Alignment => params.alignment = n,
     }
     params
-}
-
-/// The parameters of a class where a script says no others.
-pub fn defaults(class: Class) -> Params
-    ensures { result ≡ Rattle.un_script.specs.Table.defaults class }
-{
-    Params {
-        class,
-        segment: 1514,
-        packet: 512,
-        filter: 0x0e,
-        block: 16384,
-        datagrams: 32,
-        divisor: 4,
-        remainder: 0,
-        alignment: 4,
-        tx_out: 8,
-        rx_out: 8,
-        tx_in: 8,
-        rx_in: 8,
-    }
 }

@@ -1,10 +1,9 @@
 //! What no clause says: whole texts with the values that the table gives, and that each call can succeed.
 
-use crate::table::defaults;
 use crate::{Script, ScriptError, Why, generate, read};
 use std::alloc::Global;
 use std::test::Fail;
-use un_frame::{Bytes, Class, FaultKind, Lane};
+use un_frame::{Bytes, Class, FaultKind, Lane, Params};
 use un_journal::{Control, Due};
 
 /// Where a text is refused, and why.
@@ -124,10 +123,10 @@ fn refuses_values(rt: HostRuntime) {
 }
 
 #[test]
-#[tactic(auto, using(crate::proofs::Ranges::defaults_in_range), unfolding(crate::specs::Parts::state_from))]
+#[tactic(auto, unfolding(crate::specs::Parts::state_from))]
 fn adds_each_part(rt: HostRuntime) -> Result<(), Fail> {
     let alloc = rt.alloc();
-    let mut script = Script::make(alloc, defaults(Class::Ecm));
+    let mut script = Script::make(alloc, Params::of_class(Class::Ecm));
     script.add_frame(Lane::Inward, 3, Bytes::make(vec![in alloc; 7; 2]?))?;
     script.add_fault(Lane::Inward, 5, FaultKind::Halt)?;
     let suspend = Due {

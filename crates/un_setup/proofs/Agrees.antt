@@ -4,7 +4,8 @@ use Rattle.std.proofs.lemmas.Bool.Decides.{nat_tests}
 use Rattle.std.proofs.lemmas.Bool.{and_from, and_parts}
 use Rattle.un_facts.specs.Lists.{is_one_of}
 use Rattle.un_frame.specs.Ntb.{Format, ntb16, ntb32}
-use Rattle.un_frame.specs.Params.{AgreeAs, BlocksAgree}
+use Rattle.un_frame.specs.Blocks.{BlocksAgree}
+use Rattle.un_frame.specs.Params.{AgreeAs}
 use Rattle.un_frame.specs.declared.params.Params.{Params}
 use Rattle.un_frame.specs.declared.params.Class.{Class}
 use Rattle.un_frame.specs.declared.params.Class.TheVariants.{Ecm, Eem, Ncm16, Ncm32}

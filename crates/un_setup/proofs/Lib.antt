@@ -1,2 +1,2 @@
-pub mod Exchanged
+mod Exchanged
 pub mod Agrees

@@ -3,7 +3,8 @@ use Rattle.std.specs.Prelude.{◌≡◌, ◌+◌, Bool, ◌&&◌, List, [], ◌�
 use Rattle.un_facts.specs.Lists.{is_one_of}
 use Rattle.un_frame.specs.Ntb.{Format, ntb16, ntb32}
 use Rattle.un_frame.specs.NtbForm.{closed_size, datagram_place}
-use Rattle.un_frame.specs.Params.{Agree, layout_of}
+use Rattle.un_frame.specs.Blocks.{layout_of}
+use Rattle.un_frame.specs.Params.{Agree}
 use Rattle.un_frame.specs.declared.params.Params.{Params}
 use Rattle.un_frame.specs.declared.params.Class.{Class}
 use Rattle.un_frame.specs.declared.params.Class.TheVariants.{Ecm, Eem, Ncm16, Ncm32}

@@ -4,7 +4,8 @@ ghost use Rattle.std.specs.Prelude.{◌≡◌, ◌+◌, ◌<◌, ◌≤◌, ◌�
 ghost use Rattle.un_facts.specs.Lists.{is_one_of};
 ghost use Rattle.un_frame.specs.Ntb.{Format};
 ghost use Rattle.un_frame.specs.NtbForm.{datagram_place};
-ghost use Rattle.un_frame.specs.Params.{AreInRange, layout_of};
+ghost use Rattle.un_frame.specs.Blocks.{layout_of};
+ghost use Rattle.un_frame.specs.Params.{AreInRange};
 ghost use Rattle.un_setup.specs.Agreement.{blocks_tested, has_alignment, has_divisor, holds_one, tested_as};
 
 use crate::agreement::SetupFault;
@@ -37,7 +38,7 @@ fn has_alignment(params: &Params) -> bool
 
 /// The bytes of a block with one frame of the largest size, by the sizes of the format's header, its table's head and a
 /// pair of it.
-#[tactic(auto, using(un_layout::proofs::Near::multiple_near), unfolding(un_frame::specs::NtbForm::least_place))]
+#[tactic(auto, using(un_frame::proofs::NtbFormLemmas::least_multiple_near), unfolding(un_frame::specs::NtbForm::least_place))]
 fn one_frame(params: &Params, header: u32, head: u32, pair: u32) -> u32
     requires range { AreInRange params.now }
     requires below { params.now.remainder < params.now.divisor }

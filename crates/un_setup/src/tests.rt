@@ -4,22 +4,6 @@ use crate::{Agreed, SetupFault, agree};
 use std::test::Fail;
 use un_frame::{Class, Params};
 
-const PARAMS: Params = Params {
-    class: Class::Ncm16,
-    segment: 1514,
-    packet: 512,
-    filter: 0x0e,
-    block: 16384,
-    datagrams: 32,
-    divisor: 4,
-    remainder: 0,
-    alignment: 4,
-    tx_out: 4,
-    rx_out: 4,
-    tx_in: 4,
-    rx_in: 4,
-};
-
 /// The set-up packets of NCM, in NTB16.
 const NCM: [[u8; 8]; 8] = [
     [0x80, 0x06, 0x00, 0x02, 0x00, 0x00, 0xff, 0x00],
@@ -55,7 +39,9 @@ const CONNECTED: [u8; 8] = [0xa1, 0x00, 0x01, 0x00, 0x00, 0x00, 0x00, 0x00];
 
 #[test]
 fn sets_ncm_up(rt: HostRuntime) -> Result<(), Fail> {
-    let agreed = agree(rt.alloc(), &PARAMS).ok().ok_or("refused")?;
+    let agreed = agree(rt.alloc(), &Params::of_class(Class::Ncm16))
+        .ok()
+        .ok_or("refused")?;
     let exchanges = agreed.exchanges.as_slice();
     assert_eq!(rt; exchanges.len(), 8);
     for (exchange, wanted) in exchanges.iter().zip(NCM.iter()) {
@@ -74,10 +60,7 @@ fn sets_ncm_up(rt: HostRuntime) -> Result<(), Fail> {
 
 #[test]
 fn sets_ecm_up(rt: HostRuntime) -> Result<(), Fail> {
-    let ecm = Params {
-        class: Class::Ecm,
-        ..PARAMS
-    };
+    let ecm = Params::of_class(Class::Ecm);
     let agreed = agree(rt.alloc(), &ecm).ok().ok_or("refused")?;
     let exchanges = agreed.exchanges.as_slice();
     assert_eq!(rt; exchanges.len(), 4);
@@ -98,10 +81,7 @@ fn sets_ecm_up(rt: HostRuntime) -> Result<(), Fail> {
 
 #[test]
 fn sets_eem_up(rt: HostRuntime) -> Result<(), Fail> {
-    let eem = Params {
-        class: Class::Eem,
-        ..PARAMS
-    };
+    let eem = Params::of_class(Class::Eem);
     let agreed = agree(rt.alloc(), &eem).ok().ok_or("refused")?;
     assert_eq!(rt;
         (
@@ -123,7 +103,7 @@ fn refuses_what_does_not_agree(rt: HostRuntime) {
     let large = Params {
         segment: 8192,
         block: 2048,
-        ..PARAMS
+        ..Params::of_class(Class::Ncm16)
     };
     assert_eq!(rt;
         fault(agree(rt.alloc(), &large)),
@@ -134,7 +114,7 @@ fn refuses_what_does_not_agree(rt: HostRuntime) {
     );
     let three = Params {
         divisor: 3,
-        ..PARAMS
+        ..Params::of_class(Class::Ncm16)
     };
     assert_eq!(rt;
         fault(agree(rt.alloc(), &three)),
@@ -145,7 +125,7 @@ fn refuses_what_does_not_agree(rt: HostRuntime) {
     );
     let six = Params {
         alignment: 6,
-        ..PARAMS
+        ..Params::of_class(Class::Ncm16)
     };
     assert_eq!(rt;
         fault(agree(rt.alloc(), &six)),

@@ -1,7 +1,7 @@
 pub mod Putting
-pub mod Hexes
+mod Hexes
 mod Pairing
 pub mod TextCuts
-pub mod ReadNumbers
+mod ReadNumbers
 pub mod ReadWords
 pub mod ReadFields

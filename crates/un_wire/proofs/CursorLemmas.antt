@@ -4,23 +4,15 @@ use Rattle.std.proofs.Math.Seq.{get_or-append_seam}
 use Rattle.std.proofs.lemmas.Bool.{false≢true}
 use Rattle.std.proofs.lemmas.Option.{slice_get_read, slice_get-get_or}
 use Rattle.un_frame.specs.declared.params.Class.{Class}
-use Rattle.un_frame.specs.declared.params.Class.TheVariants.{Ecm, Eem, Ncm16, Ncm32}
 use Rattle.un_frame.specs.Bytes.{slice_at}
-use Rattle.un_frame.specs.Laws.{PartsAreTheFrames, ReadingIsOne}
 use Rattle.un_frame.specs.Parts.{datagram_of}
 use Rattle.un_frame.specs.Wire.{Reads}
 use Rattle.un_frame.proofs.PartLemmas.{parts_are_frames as class_parts}
-use Rattle.un_frame.proofs.WireLemmas.{ecm_one, eem_one, ncm16_one, ncm32_one}
+use Rattle.un_frame.proofs.WireLemmas.{reading_is_one}
 use Rattle.un_wire.specs.declared.cursor.Cursor.{Cursor}
 use Rattle.un_wire.specs.Cursors.{IsAt, parts_of, part_count, part_index}
 use Rattle.un_wire.specs.Laws.{PartsAreFrames, CountsAreParts, ReadingsAreOne}
 use Rattle.un_wire.specs.Places.{IsFirst, IsSoundAt, class_at, commands_in, parts_at}
-
-reading_one : (class : Class) → ReadingIsOne class
-reading_one Ecm = ecm_one
-reading_one Eem = eem_one
-reading_one Ncm16 = ncm16_one
-reading_one Ncm32 = ncm32_one
 
 -- the parts are the frames that are read
 pub parts_read : (class : Class) (bytes : List ℕ) (frames : List (List ℕ)) (commands : ℕ) → Reads class bytes frames commands → parts_of class bytes ≡ frames
@@ -29,7 +21,7 @@ parts_read class bytes frames commands r = ap (map (slice_at bytes)) (class_part
 
 pub readings_are_one : ReadingsAreOne
 readings_are_one class bytes frames others commands more r s =
-    (sym (parts_read class bytes frames commands r) ∙ parts_read class bytes others more s, (reading_one class bytes r.places s.places commands more r.found s.found).1)
+    (sym (parts_read class bytes frames commands r) ∙ parts_read class bytes others more s, (reading_is_one class bytes r.places s.places commands more r.found s.found).1)
 
 count_read : (class : Class) (bytes : List ℕ) (frames : List (List ℕ)) (commands : ℕ) → Reads class bytes frames commands → part_count class bytes ≡ length frames
 unfolding part_count

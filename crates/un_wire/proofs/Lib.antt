@@ -1,3 +1,3 @@
-pub mod CountLemmas
+mod CountLemmas
 pub mod CursorLemmas
-pub mod WriteLemmas
+mod WriteLemmas

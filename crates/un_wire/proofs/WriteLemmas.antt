@@ -1,16 +1,22 @@
 -- What the codecs write, by class.
-use Rattle.std.proofs.Common.{◌≡◌, ℕ, ◌+◌, ◌≤◌, ◌==◌, Bool, true, false, if◌then◌else◌, List, [], ◌∷◌, ◌++◌, length, map, Option, Some, None, option_to_list, unwrap_or, refl, sym, ap, ◌∙◌, arith, append-nil, length-append}
+use Rattle.std.proofs.Common.{◌≡◌, ℕ, ◌+◌, ◌<◌, ◌≤◌, ◌==◌, Bool, true, false, if◌then◌else◌, List, [], ◌∷◌, ◌++◌, length, map, Option, Some, None, option_to_list, unwrap_or, refl, sym, ap, ◌∙◌, IsTrue, subst, arith, append-nil, length-append}
+use Rattle.std.proofs.lemmas.Bool.{false≢true}
+use Rattle.std.proofs.lemmas.Bool.Decides.{nat_tests}
 use Rattle.std.proofs.lemmas.List.{length-map}
 use Rattle.std.specs.List.{concat}
-use Rattle.un_frame.proofs.FrameLemmas.{padded-short}
+use Rattle.un_frame.proofs.EemLaws.{padded-short}
 use Rattle.un_frame.specs.declared.params.Class.{Class}
 use Rattle.un_frame.specs.declared.params.Class.TheVariants.{Ecm, Eem, Ncm16, Ncm32}
+use Rattle.un_frame.specs.declared.params.Lane.{Lane}
 use Rattle.un_frame.specs.declared.params.Params.{Params}
 use Rattle.un_frame.specs.Eem.{Data, Empty, packet_bytes}
 use Rattle.un_frame.specs.Ntb.{Format, ntb16, ntb32}
 use Rattle.un_frame.specs.NtbForm.{IsOpenBlock, Layout, block_fits, datagrams_end, ntb_form, open_block}
-use Rattle.un_frame.specs.Params.{layout_of}
-use Rattle.un_frame.specs.Wire.{IsOpen, capacity_as, capacity_of, open_as, open_form}
+use Rattle.un_frame.specs.Blocks.{layout_of}
+use Rattle.un_frame.specs.Classes.{fits_alone}
+use Rattle.un_frame.specs.Lanes.{packs}
+use Rattle.un_frame.specs.Params.{Agree, AgreeAs, most_block}
+use Rattle.un_frame.specs.Wire.{IsOpen, capacity_as, capacity_of, fits_as, frame_fits, open_as, open_form}
 use Rattle.un_frame.proofs.NtbFormLemmas.{closed_fits_within, length-number_bytes}
 use Rattle.un_frame.proofs.NtbFormReads.{IsWritable, length-block}
 use Rattle.un_eem.specs.Transfer.{data_packets}
@@ -22,6 +28,52 @@ open_ecm p sizes bytes frames is o = o.so_far ∙ ap (λ (class : Class). open_a
 
 pub open_eem : (p : Params) (sizes bytes : List ℕ) (frames : List (List ℕ)) → p.class ≡ Eem → IsOpen p sizes bytes frames → bytes ≡ data_packets frames
 open_eem p sizes bytes frames is o = o.so_far ∙ ap (λ (class : Class). open_as class p frames) is
+
+-- a frame that fits is the first, of at most a segment, and the transfer has no bytes before it
+fits_first : (p : Params) (held : Option ℕ) (size : ℕ) → IsTrue (fits_alone p (option_to_list held) size) → (held ≡ None) × (size ≤ p.segment)
+fits_first p None size t = (refl, grind (arith, nat_tests, t))
+fits_first p (Some n) size t = absurd (false≢true t)
+
+no_frames : (frames : List (List ℕ)) → map length frames ≡ [] → frames ≡ []
+no_frames [] same = refl
+no_frames (x ∷ xs) same = absurd (cc)
+
+module _ (p : Params) (held : Option ℕ) (size : ℕ) (is : p.class ≡ Ecm) (fits : IsTrue (frame_fits p (option_to_list held) size)) where
+  ecm_first : (held ≡ None) × (size ≤ p.segment)
+  ecm_first = fits_first p held size (subst (λ (class : Class). IsTrue (fits_as class p (option_to_list held) size)) is fits)
+
+  pub ecm_frame_room : (room : ℕ) → capacity_of p ≤ room → size ≤ room
+  ecm_frame_room room within =
+      let first = ecm_first in
+      let most = first.1 in
+      let capacity = ap (λ (class : Class). capacity_as class p) is in
+      omega (arith, most, capacity, within)
+
+  pub ecm_empty : (bytes : List ℕ) → ((frames : List (List ℕ)) × IsOpen p (option_to_list held) bytes frames) → bytes ≡ []
+  ecm_empty bytes left =
+      let first = ecm_first in
+      let none = no_frames left.0 (left.1.lengths ∙ ap (λ (o : Option ℕ). option_to_list o) first.0) in
+      open_ecm p (option_to_list held) bytes left.0 is left.1 ∙ ap (λ (fs : List (List ℕ)). concat fs) none
+
+module _ (p : Params) (held : Option ℕ) (size : ℕ) (is : p.class ≡ Eem) (fits : IsTrue (frame_fits p (option_to_list held) size)) where
+  eem_first : (held ≡ None) × (size ≤ p.segment)
+  eem_first = fits_first p held size (subst (λ (class : Class). IsTrue (fits_as class p (option_to_list held) size)) is fits)
+
+  pub eem_frame_most : p.segment ≤ 8192 → size ≤ 16379
+  eem_frame_most segment =
+      let first = eem_first in
+      let most = first.1 in
+      omega (arith, most, segment)
+
+  pub eem_frame_room : (bytes : List ℕ) (room : ℕ) → ((frames : List (List ℕ)) × IsOpen p (option_to_list held) bytes frames) → capacity_of p ≤ room → length bytes + size + 6 ≤ room
+  eem_frame_room bytes room left within =
+      let first = eem_first in
+      let most = first.1 in
+      let none = no_frames left.0 (left.1.lengths ∙ ap (λ (o : Option ℕ). option_to_list o) first.0) in
+      let empty : bytes ≡ [] = open_eem p (option_to_list held) bytes left.0 is left.1 ∙ ap (λ (fs : List (List ℕ)). data_packets fs) none in
+      let long = ap (λ (xs : List ℕ). length xs) empty in
+      let capacity = ap (λ (class : Class). capacity_as class p) is in
+      omega (arith, most, long, capacity, within)
 
 -- the frames of an open transfer that holds one frame at most
 pub length-concat_held : (held : Option ℕ) (frames : List (List ℕ)) → map length frames ≡ option_to_list held → length (concat frames) ≡ unwrap_or held 0
@@ -98,3 +150,20 @@ open_ncm width p frames is = ap (λ (class : Class). open_as class p frames) is 
   of_both : (b : Bool) → open_as (if b then Ncm16 else Ncm32) p frames ≡ open_block (if b then ntb16 else ntb32) (layout_of p) frames
   of_both true = refl
   of_both false = refl
+
+-- and they are packed, in either lane
+pub packs_ncm : (width : ℕ) (class : Class) (lane : Lane) → class ≡ class_of width → packs class lane ≡ true
+packs_ncm width class lane is = ap (λ (c : Class). packs c lane) is ∙ of_both (width == 2) where
+  of_both : (b : Bool) → packs (if b then Ncm16 else Ncm32) lane ≡ true
+  of_both true = refl
+  of_both false = refl
+
+-- its parameters are a block's
+pub remainder_ncm : (width : ℕ) (p : Params) → p.class ≡ class_of width → Agree p → p.remainder < p.divisor
+remainder_ncm width p is agree = of_both (width == 2) (subst (λ (class : Class). AgreeAs class p) is agree) where
+  of_both : (b : Bool) → AgreeAs (if b then Ncm16 else Ncm32) p → p.remainder < p.divisor
+  of_both true a = a.remainder
+  of_both false a = a.remainder
+
+pub block_ncm : (width : ℕ) (p : Params) → p.class ≡ class_of width → p.block ≤ most_block p.class → p.block ≤ most_block (class_of width)
+block_ncm width p is within = subst (λ (class : Class). p.block ≤ most_block class) is within

@@ -1,23 +1,25 @@
 -- What the codecs of the classes keep, and what callers see of it.
 use Rattle.std.specs.Prelude.{◌≡◌, ℕ, ◌<◌, ◌≤◌, length, List, [], Option, None, option_to_list, unwrap_or, false, true}
-use Rattle.un_frame.specs.Lanes.{builds_blocks}
+use Rattle.un_frame.specs.declared.params.Class.{Class}
+use Rattle.un_frame.specs.declared.params.Params.{Params}
+use Rattle.un_frame.specs.Blocks.{layout_of}
 use Rattle.un_frame.specs.NtbForm.{block_fits}
-use Rattle.un_frame.specs.Params.{layout_of}
 use Rattle.un_frame.specs.Wire.{Coding}
-use Rattle.un_wire.specs.declared.frame.FrameWire.TheInside as frame_wire
+use Rattle.un_wire.specs.declared.single.Single.{Single}
 use Rattle.un_ntb.specs.Formats.{class_of, format_of}
 use Rattle.un_wire.specs.declared.ntb.NtbWire.TheInside as ntb_wire
 
--- a codec of ECM or of EEM: the open transfer has at most one frame, of at most a segment; with none open there is no frame
-abbrev pub frame_coding : frame_wire.Inside → Coding
-frame_coding w = record { params = w.params; sizes = option_to_list w.held; is_open = w.is_open }
+-- a codec of a class whose writers put one frame into a transfer: the open transfer has at most one, of at most a segment;
+-- with none open there is no frame
+abbrev pub single_coding : Params → Single → Coding
+single_coding params single = record { params = params; sizes = option_to_list single.held; is_open = single.is_open }
 
-pub record IsFrame (w : frame_wire.Inside) : Type 0 where
-  pub class : builds_blocks w.params.class ≡ false
-  pub segment : w.params.segment ≤ 8192
-  pub packet : 1 ≤ w.params.packet
-  pub fits : unwrap_or w.held 0 ≤ w.params.segment
-  pub nothing_open : w.is_open ≡ false → w.held ≡ None
+pub record IsSingle (class : Class) (params : Params) (single : Single) : Type 0 where
+  pub class_is : params.class ≡ class
+  pub segment : params.segment ≤ 8192
+  pub packet : 1 ≤ params.packet
+  pub fits : unwrap_or single.held 0 ≤ params.segment
+  pub nothing_open : single.is_open ≡ false → single.held ≡ None
 
 -- a codec of NCM, by the bytes of an index: its writer has the parameters, and the open block's frames fit; with none open
 -- there are no frames

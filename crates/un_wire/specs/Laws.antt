@@ -1,9 +1,8 @@
 -- What a builder or a receiver may rest on, beside the clauses of the calls.
-use Rattle.std.specs.Prelude.{◌≡◌, ℕ, ◌*◌, ◌<◌, ◌≤◌, List, length, slice_get, Some}
+use Rattle.std.specs.Prelude.{◌≡◌, ℕ, ◌<◌, ◌≤◌, List, length, slice_get, Some}
 use Rattle.un_frame.specs.declared.params.Class.{Class}
-use Rattle.un_frame.specs.declared.params.Class.TheVariants.{Ecm, Eem, Ncm16, Ncm32}
 use Rattle.un_frame.specs.Bytes.{AreBytes}
-use Rattle.un_frame.specs.Ntb.{MOST_TABLES}
+use Rattle.un_frame.specs.Classes.{rules_of}
 use Rattle.un_frame.specs.Parts.{ReadsAs, datagram_of}
 use Rattle.un_frame.specs.Wire.{Reads}
 use Rattle.un_wire.specs.Cursors.{part_count}
@@ -25,13 +24,9 @@ abbrev pub ReadingsAreOne : Type 0
 ReadingsAreOne = (class : Class) (bytes : List ℕ) (frames others : List (List ℕ)) (commands more : ℕ)
     → Reads class bytes frames commands → Reads class bytes others more → (frames ≡ others) × (commands ≡ more)
 
--- The most frames of a transfer of so many bytes: one in ECM, and no more than bytes in EEM. In NCM many pairs may name the same
--- bytes, but a block has 32 tables at most, each of at most 65,535 bytes.
+-- the most frames of a transfer of so many bytes
 abbrev pub most_frames : Class → ℕ → ℕ
-most_frames Ecm size = 1
-most_frames Eem size = size
-most_frames Ncm16 size = MOST_TABLES * 65535
-most_frames Ncm32 size = MOST_TABLES * 65535
+most_frames class size = (rules_of class).most_frames size
 
 -- a transfer has no more frames than that
 abbrev pub FramesAreFew : Type 0

@@ -8,13 +8,26 @@ ghost use Rattle.un_frame.specs.Parts.{datagram_of};
 ghost use Rattle.un_frame.specs.Wire.{fault_of};
 
 use crate::cursor::{Cursor, begin};
-use crate::frame::{EcmWire, EemWire};
+use crate::ecm::EcmWire;
+use crate::eem::EemWire;
 use crate::ntb::{Ntb16Wire, Ntb32Wire};
 use crate::parts::{Parts, read};
 use crate::wire::Wire;
 use std::alloc::{AllocError, Global};
 use un_frame::{Class, Fault, Lane, Params};
 use un_req::Request;
+
+/// What the codec answers, of whichever class it is.
+macro_rules! each {
+    ($of:expr, $codec:ident => $answer:expr) => {
+        match $of {
+            Codec::Ecm($codec) => $answer,
+            Codec::Eem($codec) => $answer,
+            Codec::Ncm16($codec) => $answer,
+            Codec::Ncm32($codec) => $answer,
+        }
+    };
+}
 
 /// A codec of any class.
 #[derive(Drop)]
@@ -53,22 +66,14 @@ impl Codec {
     fn class(&self) -> Class
         ensures { result ≡ (coding_of self.now).params.class }
     {
-        match self {
-            Codec::Ecm(codec) => codec.class(),
-            Codec::Eem(codec) => codec.class(),
-            Codec::Ncm16(codec) => codec.class(),
-            Codec::Ncm32(codec) => codec.class(),
-        }
+        each!(self, codec => codec.class())
     }
 
-    /// Whether the transmitting end of a lane packs several frames into one of its transfers: with NCM it does.
+    /// Whether the transmitting end of a lane packs several frames into one of its transfers, as the codec of its class says.
     pub fn packs(&self, lane: Lane) -> bool
         ensures { result ≡ packs (coding_of self.now).params.class lane }
     {
-        match self.class() {
-            Class::Ecm | Class::Eem => false,
-            Class::Ncm16 | Class::Ncm32 => true,
-        }
+        each!(self, codec => codec.packs(lane))
     }
 
     /// The cursor at the first part of a transfer, exactly where the grammar of the class reads it; else the fault that `read`
@@ -114,57 +119,27 @@ impl Wire for Codec {
     ghost coding = { coding_of };
 
     fn capacity(&self) -> u32 {
-        match self {
-            Codec::Ecm(codec) => codec.capacity(),
-            Codec::Eem(codec) => codec.capacity(),
-            Codec::Ncm16(codec) => codec.capacity(),
-            Codec::Ncm32(codec) => codec.capacity(),
-        }
+        each!(self, codec => codec.capacity())
     }
 
     fn count(&self) -> u32 {
-        match self {
-            Codec::Ecm(codec) => codec.count(),
-            Codec::Eem(codec) => codec.count(),
-            Codec::Ncm16(codec) => codec.count(),
-            Codec::Ncm32(codec) => codec.count(),
-        }
+        each!(self, codec => codec.count())
     }
 
     fn fits(&self, length: u32) -> bool {
-        match self {
-            Codec::Ecm(codec) => codec.fits(length),
-            Codec::Eem(codec) => codec.fits(length),
-            Codec::Ncm16(codec) => codec.fits(length),
-            Codec::Ncm32(codec) => codec.fits(length),
-        }
+        each!(self, codec => codec.fits(length))
     }
 
     fn start(&mut self, request: &mut Request) {
-        match self {
-            Codec::Ecm(codec) => codec.start(request),
-            Codec::Eem(codec) => codec.start(request),
-            Codec::Ncm16(codec) => codec.start(request),
-            Codec::Ncm32(codec) => codec.start(request),
-        }
+        each!(self, codec => codec.start(request))
     }
 
     fn append(&mut self, request: &mut Request, frame: &[u8]) {
-        match self {
-            Codec::Ecm(codec) => codec.append(request, frame),
-            Codec::Eem(codec) => codec.append(request, frame),
-            Codec::Ncm16(codec) => codec.append(request, frame),
-            Codec::Ncm32(codec) => codec.append(request, frame),
-        }
+        each!(self, codec => codec.append(request, frame))
     }
 
     fn close(&mut self, request: &mut Request, serial: u64) {
-        match self {
-            Codec::Ecm(codec) => codec.close(request, serial),
-            Codec::Eem(codec) => codec.close(request, serial),
-            Codec::Ncm16(codec) => codec.close(request, serial),
-            Codec::Ncm32(codec) => codec.close(request, serial),
-        }
+        each!(self, codec => codec.close(request, serial))
     }
 
     fn read<'a>(&self, bytes: &'a [u8]) -> Result<Parts<'a>, Fault> {

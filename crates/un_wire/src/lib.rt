@@ -6,17 +6,20 @@
 
 mod codec;
 mod cursor;
-mod frame;
+mod ecm;
+mod eem;
 mod laws;
 mod ntb;
 mod parts;
+mod single;
 #[cfg(test)]
 mod tests;
 mod wire;
 
 pub use codec::Codec;
 pub use cursor::Cursor;
-pub use frame::{EcmWire, EemWire, FrameWire};
+pub use ecm::EcmWire;
+pub use eem::EemWire;
 pub use laws::{forms_are_read, frames_are_few, open_transfers, parts_are_one, segments_fit};
 pub use ntb::{Ntb16Wire, Ntb32Wire, NtbWire};
 pub use parts::{Parts, read};

@@ -1,6 +1,7 @@
 //! Transfers of NCM, in either width of a block's fields.
 
 ghost use Rattle.std.specs.Prelude.{◌≡◌, IfOk};
+ghost use Rattle.un_frame.specs.Lanes.{packs};
 ghost use Rattle.un_frame.specs.Params.{Agree, AreInRange};
 ghost use Rattle.un_ntb.specs.Formats.{class_of};
 ghost use Rattle.un_wire.specs.Codings.{fresh};
@@ -9,7 +10,7 @@ use crate::parts::{Parts, read};
 use crate::wire::Wire;
 use std::alloc::{AllocError, Global};
 use std::marker::Model;
-use un_frame::{Class, Fault, Params};
+use un_frame::{Class, Fault, Lane, Params};
 use un_ntb::Writer;
 use un_req::Request;
 
@@ -66,6 +67,14 @@ impl<const WIDTH: usize> NtbWire<WIDTH> {
         ensures { result ≡ self.now.params.class }
     {
         self.params.class
+    }
+
+    /// Whether the transmitting end of a lane packs several frames into one of its transfers: in either lane it does.
+    pub(crate) fn packs(&self, lane: Lane) -> bool
+        ensures { result ≡ packs self.now.params.class lane }
+    {
+        let _params = self.params;
+        true
     }
 }
 

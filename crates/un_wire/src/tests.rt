@@ -1,7 +1,6 @@
 //! Codecs of each class: frames there and back, and a cursor's walk.
 
 ghost use Rattle.std.specs.Prelude.{◌≡◌, ◌≤◌, [], IsTrue, length};
-ghost use Rattle.un_frame.specs.Params.{Agree, AreInRange};
 ghost use Rattle.un_frame.specs.Wire.{capacity_of, frame_fits};
 ghost use Rattle.un_wire.specs.Codings.{coding_of};
 
@@ -16,28 +15,6 @@ const BLOCK: [u8; 92] = *b"NCMH\x0c\0\0\0\x5c\0\x4c\0\
 \0\0\0\0\0\0\0\0\0\0\0\0\0\0\0\0\0\0\0\0\0\0\0\
 \0\0\0\0\0\0\0\0\0\0\0\0\0\0\0\0\0\0\0\0\0\0\0\
 \0\0NCM0\x10\0\0\0\x0e\0\x3c\0\0\0\0\0";
-
-/// The parameters of a link of which the class alone is given.
-fn params(class: Class) -> Params
-    ensures in_range { AreInRange result }
-    ensures agree { Agree result }
-{
-    Params {
-        class,
-        segment: 1514,
-        packet: 512,
-        filter: 0x0e,
-        block: 16384,
-        datagrams: 32,
-        divisor: 4,
-        remainder: 0,
-        alignment: 4,
-        tx_out: 8,
-        rx_out: 8,
-        tx_in: 8,
-        rx_in: 8,
-    }
-}
 
 /// Writes a transfer of one frame.
 fn write_one(codec: &mut Codec, request: &mut Request, frame: &[u8])
@@ -60,7 +37,7 @@ fn a_frame_there_and_back(rt: HostRuntime) -> Result<(), Fail> {
         (Class::Ncm16, 92),
         (Class::Ncm32, 112),
     ] {
-        let mut codec = Codec::make(rt.alloc(), &params(class))?;
+        let mut codec = Codec::make(rt.alloc(), &Params::of_class(class))?;
         let mut pool = Pool::make(rt.alloc(), 1, codec.capacity())?;
         let mut request = pool.take().ok_or("none is home")?;
         assert_eq!(rt; codec.count(), 0);
@@ -77,7 +54,7 @@ fn a_frame_there_and_back(rt: HostRuntime) -> Result<(), Fail> {
 
 #[test]
 fn a_cursor_walks_a_block(rt: HostRuntime) -> Result<(), Fail> {
-    let codec = Codec::make(rt.alloc(), &params(Class::Ncm16))?;
+    let codec = Codec::make(rt.alloc(), &Params::of_class(Class::Ncm16))?;
     let mut cursor = codec.cursor(&BLOCK).ok().ok_or("a fault")?;
     assert!(rt; codec.part_at(&BLOCK, &cursor) == Some(&BLOCK[14..74]));
     assert!(rt; codec.advance(&BLOCK, &mut cursor));

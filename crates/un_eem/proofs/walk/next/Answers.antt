@@ -8,4 +8,4 @@ returns-then-bytes-at-clause-one c =
     none ∙ sym (ap (λ (frames : List (List ℕ)). drop 1 frames) none)
 
 pub returns-clause-one : goal.returns-clause-one
-returns-clause-one c = c.settle.ensures.same ∙ frames_on c.args.bytes.now c.args.at c.after.result c.if-bytes-at.false (c.requires.frame c.if-bytes-at.false) c.after.ensures.next
+returns-clause-one c = c.skip_commands.ensures.same ∙ frames_on c.args.bytes.now c.args.at c.after.result c.if-bytes-at.false (c.requires.frame c.if-bytes-at.false) c.after.ensures.next

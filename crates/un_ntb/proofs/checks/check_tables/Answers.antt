@@ -14,10 +14,10 @@ loop-count-preserved g c =
     let after = take (c.loop-count.count + 1) (set c.loop-count.seen c.loop-count.count at) in
     let seen : list_any (λ earlier. earlier == at) before ≡ false = grind (arith, common_steps) in
     let more : after ≡ before ++ at ∷ [] = grind (arith, common_steps, c.loop-count.invariant.seen) in
-    let last = c.next.ensures.value in
-    let go = tables_go f c.args.block.now (32 - c.loop-count.count) (32 - (c.loop-count.count + 1)) before after c.loop-count.field at (at + c.next.result) (omega arith) c.number-at.ensures.value seen (sym c.in_ok-check_table.ensures.fault) (λ n. c.if-number-eq0.false (c.number.ensures.value ∙ ap (λ k. number_at f.width c.args.block.now (at + k)) last ∙ n)) more (ap (λ n. at + n) last) in
+    let last = c.next_ndp_index.ensures.value in
+    let go = tables_go f c.args.block.now (32 - c.loop-count.count) (32 - (c.loop-count.count + 1)) before after c.loop-count.field at (at + c.next_ndp_index.result) (omega arith) c.number-at.ensures.value seen (sym c.in_ok-check_table.ensures.fault) (λ n. c.if-number-eq0.false (c.number.ensures.value ∙ ap (λ k. number_at f.width c.args.block.now (at + k)) last ∙ n)) more (ap (λ n. at + n) last) in
     record {
-      room = omega (arith, c.in_ok-check_table.ensures.room, c.next.ensures.inside);
+      room = omega (arith, c.in_ok-check_table.ensures.room, c.next_ndp_index.ensures.inside);
       seen = grind (arith, common_steps, c.loop-count.invariant.seen);
       same = sym go ∙ c.loop-count.invariant.same;
     }

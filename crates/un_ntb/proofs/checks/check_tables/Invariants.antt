@@ -8,5 +8,5 @@ abbrev pub invariant-loop-count : goal.invariant-loop-count
 invariant-loop-count g l = record {
   room : l.field + (format_of g.row.WIDTH).width ≤ length l.block;
   seen : length l.seen ≡ 32;
-  same : tables_fault (format_of g.row.WIDTH) l.block (32 - l.count) (take l.count l.seen) l.field ≡ tables_fault (format_of g.row.WIDTH) l.fn.block 32 [] (format_of g.row.WIDTH).first;
+  same : tables_fault (format_of g.row.WIDTH) l.block (32 - l.count) (take l.count l.seen) l.field ≡ tables_fault (format_of g.row.WIDTH) l.fn.block 32 [] (format_of g.row.WIDTH).ndp_index;
 }

@@ -1,7 +1,7 @@
 use Rattle.std.proofs.Common.{◌≡◌, ◌-◌, length}
 use Rattle.un_eem.specs.Frames.{frames_from}
 use Rattle.un_eem.specs.Walk.{IsSound}
-use Rattle.un_eem.proofs.walk.settle.Given as goal
+use Rattle.un_eem.proofs.walk.skip_commands.Given as goal
 
 abbrev pub invariant-loop-at : goal.invariant-loop-at
 invariant-loop-at l = record { sound : IsSound l.bytes l.at; same : frames_from l.bytes l.at ≡ frames_from l.fn.bytes l.fn.at }

@@ -1,8 +1,8 @@
 use Rattle.std.proofs.Common.{◌-◌, sym, ◌∙◌, arith, inl, inr}
 use Rattle.un_frame.proofs.NtbCursorLemmas.{left_end, left_null, IsCursor_open, IsCursor_null}
 use Rattle.un_ntb.specs.Formats.{format_of}
-use Rattle.un_ntb.proofs.cursor.settle.Goals as goal
-use Rattle.un_ntb.proofs.cursor.settle.Goals.{then-cursor-eq0-2-via-then-cursor-eq0-2, then-cursor-eq0-2-via-else-cursor-eq0-2+then-cursor-eq0-3}
+use Rattle.un_ntb.proofs.cursor.skip_ended.Goals as goal
+use Rattle.un_ntb.proofs.cursor.skip_ended.Goals.{then-cursor-eq0-2-via-then-cursor-eq0-2, then-cursor-eq0-2-via-else-cursor-eq0-2+then-cursor-eq0-3}
 
 pub returns-then-cursor-eq0-2-clause-end : goal.returns-then-cursor-eq0-2-clause-end
 returns-then-cursor-eq0-2-clause-end g c =

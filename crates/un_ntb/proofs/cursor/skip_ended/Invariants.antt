@@ -1,7 +1,7 @@
 use Rattle.std.proofs.Common.{◌≡◌, ◌+◌, ◌*◌, min}
 use Rattle.un_ntb.specs.Cursor.{IsIn, left}
 use Rattle.un_ntb.specs.Formats.{format_of}
-use Rattle.un_ntb.proofs.cursor.settle.Given as goal
+use Rattle.un_ntb.proofs.cursor.skip_ended.Given as goal
 
 -- what is left stays the same
 abbrev pub invariant-loop-cursor : goal.invariant-loop-cursor

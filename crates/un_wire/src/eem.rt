@@ -1,0 +1,96 @@
+//! Transfers of EEM.
+
+ghost use Rattle.std.specs.Prelude.{◌≡◌};
+ghost use Rattle.un_frame.specs.Lanes.{packs};
+ghost use Rattle.un_frame.specs.Params.{AreInRange};
+ghost use Rattle.un_frame.specs.declared.params.Class.TheVariants.{Eem};
+ghost use Rattle.un_wire.specs.Codings.{fresh};
+
+use crate::parts::{Parts, read};
+use crate::single::Single;
+use crate::wire::Wire;
+use std::marker::Model;
+use un_frame::{Class, Fault, Lane, Params};
+use un_req::Request;
+
+/// A codec of EEM: the frame is a data packet, and any packets are read (EEM 1.0, 5.1).
+#[derive(Drop)]
+pub struct EemWire {
+    params: Params,
+    single: Single,
+}
+
+impl Model for EemWire {
+    ghost use Rattle.un_frame.specs.Wire.{Coding};
+    ghost use Rattle.un_frame.specs.declared.params.Class.TheVariants.{Eem};
+    ghost use Rattle.un_wire.specs.Held.{IsSingle, single_coding};
+
+    ghost Value = { Coding };
+
+    ghost view = { λ w. single_coding w.params w.single };
+
+    ghost invariant = { λ w. IsSingle Eem w.params w.single };
+}
+
+impl EemWire {
+    /// A codec with no open transfer.
+    pub(crate) fn make(params: &Params) -> EemWire
+        requires in_range { AreInRange params.now }
+        requires class { params.now.class ≡ Eem }
+        ensures { result ≡ fresh params.now }
+    {
+        EemWire {
+            params: *params,
+            single: Single::closed(),
+        }
+    }
+
+    /// Its class.
+    pub(crate) fn class(&self) -> Class
+        ensures { result ≡ self.now.params.class }
+    {
+        self.params.class
+    }
+
+    /// Whether the transmitting end of a lane packs several frames into one of its transfers: it doesn't.
+    pub(crate) fn packs(&self, lane: Lane) -> bool
+        ensures { result ≡ packs self.now.params.class lane }
+    {
+        let _params = self.params;
+        false
+    }
+}
+
+impl Wire for EemWire {
+    ghost coding = { λ w. w };
+
+    fn capacity(&self) -> u32 {
+        self.params.segment + 8
+    }
+
+    fn count(&self) -> u32 {
+        self.single.count()
+    }
+
+    fn fits(&self, length: u32) -> bool {
+        self.single.fits(&self.params, length)
+    }
+
+    fn start(&mut self, request: &mut Request) {
+        self.single.start();
+    }
+
+    fn append(&mut self, request: &mut Request, frame: &[u8]) {
+        self.single.hold(frame.len() as u32);
+        un_eem::append(request, frame);
+    }
+
+    fn close(&mut self, request: &mut Request, serial: u64) {
+        un_eem::finish(request, self.params.packet);
+        self.single.close();
+    }
+
+    fn read<'a>(&self, bytes: &'a [u8]) -> Result<Parts<'a>, Fault> {
+        read(self.params.class, bytes)
+    }
+}
