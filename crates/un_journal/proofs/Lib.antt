@@ -1,44 +1,13 @@
-pub mod Status
-pub mod Numbers
-pub mod OnePlace
-pub mod Order
-pub mod Given
-pub mod Lists
-pub mod Legal
-pub mod Steps
-pub mod Unique
-pub mod Complete
-pub mod Going
-pub mod Delivery
-pub mod Licences
-pub mod BaseWords
-pub mod Onto
-pub mod Rules
-pub mod Homes
-pub mod Calm
-pub mod Finished
-pub mod Bound
-pub mod Drained
-pub mod Transfers
-pub mod Ranges
-pub mod Formed
-pub mod NoLoss
-pub mod Flown
-pub mod Settled
-pub mod Closed
-pub mod Moments
-pub mod Room
-pub mod Landing
-pub mod Flights
-pub mod Counts
-pub mod Spelled
-pub mod LaneFacts
-pub mod LinkFacts
-pub mod Examples
-pub mod Entries
-pub mod TextLemmas
-pub mod TextReads
-pub mod ReadLines
-pub mod ReadEntries
-pub mod TextUnique
-pub mod ReadTraces
+pub mod Theorems
+pub mod ForLane
+pub mod ForLink
+mod Lists
+mod Lanes
+mod Steps
+mod Bytes
+mod Bounds
+mod Finish
+mod Text
+mod StoredEntries
+mod SameFlight
+mod Examples

@@ -3,7 +3,7 @@ use Rattle.std.specs.Prelude.{◌≡◌, ℕ, ◌+◌, Bool, ◌&&◌, ◌==◌,
 use Rattle.std.specs.Str.{bytes_eq}
 use Rattle.un_facts.specs.Numbers.{one_if}
 use Rattle.un_frame.specs.Lanes.{same_lane}
-use Rattle.un_journal.specs.declared.machine.Flight.{Flight}
+use Rattle.un_journal.specs.declared.machine.FlightKey.{FlightKey}
 use Rattle.un_journal.specs.declared.machine.Transfer.{Transfer}
 use Rattle.un_journal.specs.declared.got.Got.{Got}
 use Rattle.un_journal.specs.declared.got.Got.TheVariants.{Part, Cut, Not}
@@ -17,26 +17,26 @@ abbrev pub same_transfer : Transfer → Transfer → Bool
 same_transfer a b =
     same_lane a.lane b.lane && (a.serial == b.serial && (a.from == b.from && (a.to == b.to && bytes_eq a.bytes b.bytes)))
 
-abbrev pub same_requests : Flight → Flight → Bool
+abbrev pub same_requests : FlightKey → FlightKey → Bool
 same_requests a b = a.tx == b.tx && (a.tx_capacity == b.tx_capacity && (a.rx == b.rx && a.rx_capacity == b.rx_capacity))
 
-abbrev pub same_flight : Flight → Flight → Bool
+abbrev pub same_flight : FlightKey → FlightKey → Bool
 same_flight a b = same_transfer a.transfer b.transfer && same_requests a b
 
 -- how often a flight stands in a list
-abbrev pub times : Flight → List Flight → ℕ
+abbrev pub times : FlightKey → List FlightKey → ℕ
 times x xs = total_of (λ y. one_if (same_flight x y)) xs
 
 -- the flight is added, and no equal one was there
-abbrev pub Gains : Flight → List Flight → List Flight → Type 0
-Gains r before after = ((x : Flight) → times x after ≡ times x before + times x (r ∷ [])) × (times r before ≡ 0)
+abbrev pub Gains : FlightKey → List FlightKey → List FlightKey → Type 0
+Gains r before after = ((x : FlightKey) → times x after ≡ times x before + times x (r ∷ [])) × (times r before ≡ 0)
 
 -- the flight is removed, once
-abbrev pub Loses : Flight → List Flight → List Flight → Type 0
-Loses r before after = (x : Flight) → times x after + times x (r ∷ []) ≡ times x before
+abbrev pub Loses : FlightKey → List FlightKey → List FlightKey → Type 0
+Loses r before after = (x : FlightKey) → times x after + times x (r ∷ []) ≡ times x before
 
 -- what came is what is named. Where it is a part, the part's flight is added to those that are out, and else they stay
-abbrev pub Takes : {P : Type 0} → (P → Flight) → Got P → Got Transfer → List Flight → List Flight → Type 0
+abbrev pub Takes : {P : Type 0} → (P → FlightKey) → Got P → Got Transfer → List FlightKey → List FlightKey → Type 0
 Takes flight_of (Part p) named before after = (named ≡ Part (flight_of p).transfer) × Gains (flight_of p) before after
 Takes flight_of Cut named before after = (named ≡ Cut) × (after ≡ before)
 Takes flight_of (Not a) named before after = (named ≡ Not a) × (after ≡ before)

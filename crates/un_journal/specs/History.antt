@@ -55,26 +55,30 @@ abbrev pub told_if : {X : Type 0} → Bool → X → Option X → Option X
 told_if true x before = Some x
 told_if false x before = before
 
+-- LINES THAT PASS A TEST
+
+-- whether some line passes, and how many do
+abbrev pub some_line : (Line → Bool) → History → Bool
+some_line test [] = false
+some_line test (e ∷ g) = test e.0 || some_line test g
+
+abbrev pub count_of : (Line → Bool) → History → ℕ
+count_of test [] = 0
+count_of test (e ∷ g) = more_if (test e.0) (count_of test g)
+
 -- THE LANE'S LINES, g, THE NEWEST FIRST
 
 -- how many datagrams were accepted
 abbrev pub taken : History → ℕ
-taken [] = 0
-taken ((Took l s, bytes) ∷ g) = taken g + 1
-taken (e ∷ g) = taken g
+taken g = count_of (elim [ Took l s ↦ true | _ ↦ false ]) g
 
 -- how many frames of a sender were consumed
 abbrev pub consumed : History → ℕ → ℕ
-consumed [] sender = 0
-consumed ((Took l s, bytes) ∷ g) sender = more_if (s == sender) (consumed g sender)
-consumed ((Refused l s why, bytes) ∷ g) sender = more_if (s == sender) (consumed g sender)
-consumed (e ∷ g) sender = consumed g sender
+consumed g sender = count_of (elim [ Took l s ↦ s == sender | Refused l s why ↦ s == sender | _ ↦ false ]) g
 
 -- how many transfers were made
 abbrev pub made : History → ℕ
-made [] = 0
-made ((Made l k a b, bytes) ∷ g) = made g + 1
-made (e ∷ g) = made g
+made g = count_of (elim [ Made l k a b ↦ true | _ ↦ false ]) g
 
 -- the span and the bytes of a transfer
 abbrev pub span : History → ℕ → Option (ℕ × ℕ)
@@ -95,9 +99,7 @@ serial_of (e ∷ g) n = serial_of g n
 
 -- whether n was dropped
 abbrev pub dropped : History → ℕ → Bool
-dropped [] n = false
-dropped ((Dropped l a b c, bytes) ∷ g) n = within a b n || dropped g n
-dropped (e ∷ g) n = dropped g n
+dropped g n = some_line (elim [ Dropped l a b c ↦ within a b n | _ ↦ false ]) g
 
 -- the end of the last made or dropped span
 abbrev pub cover : History → ℕ
@@ -117,30 +119,20 @@ flies (e ∷ g) k = flies g k
 
 -- whether it ever flew
 abbrev pub flown : History → ℕ → Bool
-flown [] k = false
-flown ((Flying l j, bytes) ∷ g) k = j == k || flown g k
-flown (e ∷ g) k = flown g k
+flown g k = some_line (elim [ Flying l j ↦ j == k | _ ↦ false ]) g
 
 -- whether it landed, failed, was cut, was opened
 abbrev pub landed : History → ℕ → Bool
-landed [] k = false
-landed ((Landed l j, bytes) ∷ g) k = j == k || landed g k
-landed (e ∷ g) k = landed g k
+landed g k = some_line (elim [ Landed l j ↦ j == k | _ ↦ false ]) g
 
 abbrev pub failed : History → ℕ → Bool
-failed [] k = false
-failed ((Failed l j kind, bytes) ∷ g) k = j == k || failed g k
-failed (e ∷ g) k = failed g k
+failed g k = some_line (elim [ Failed l j kind ↦ j == k | _ ↦ false ]) g
 
 abbrev pub was_cut : History → ℕ → Bool
-was_cut [] k = false
-was_cut ((Cut l j c, bytes) ∷ g) k = j == k || was_cut g k
-was_cut (e ∷ g) k = was_cut g k
+was_cut g k = some_line (elim [ Cut l j c ↦ j == k | _ ↦ false ]) g
 
 abbrev pub opened : History → ℕ → Bool
-opened [] k = false
-opened ((Opened l j, bytes) ∷ g) k = j == k || opened g k
-opened (e ∷ g) k = opened g k
+opened g k = some_line (elim [ Opened l j ↦ j == k | _ ↦ false ]) g
 
 -- the control that marked it
 abbrev pub mark : History → ℕ → Option ℕ
@@ -150,9 +142,7 @@ mark (e ∷ g) k = mark g k
 
 -- whether datagram n was given, and the numbers given, in order
 abbrev pub gave : History → ℕ → Bool
-gave [] n = false
-gave ((Gave l m, bytes) ∷ g) n = m == n || gave g n
-gave (e ∷ g) n = gave g n
+gave g n = some_line (elim [ Gave l m ↦ m == n | _ ↦ false ]) g
 
 abbrev pub given : History → List ℕ
 given [] = []
@@ -194,24 +184,16 @@ delivered g = those (λ k. landed g k && is_empty (left_of g k)) (made g)
 
 -- counts of lines
 abbrev pub posts : History → ℕ
-posts [] = 0
-posts ((Posted l, bytes) ∷ g) = posts g + 1
-posts (e ∷ g) = posts g
+posts g = count_of (elim [ Posted l ↦ true | _ ↦ false ]) g
 
 abbrev pub recalls : History → ℕ
-recalls [] = 0
-recalls ((Recalled l, bytes) ∷ g) = recalls g + 1
-recalls (e ∷ g) = recalls g
+recalls g = count_of (elim [ Recalled l ↦ true | _ ↦ false ]) g
 
 abbrev pub flights : History → ℕ
-flights [] = 0
-flights ((Flying l k, bytes) ∷ g) = flights g + 1
-flights (e ∷ g) = flights g
+flights g = count_of (elim [ Flying l k ↦ true | _ ↦ false ]) g
 
 abbrev pub failures : History → ℕ
-failures [] = 0
-failures ((Failed l k kind, bytes) ∷ g) = failures g + 1
-failures (e ∷ g) = failures g
+failures g = count_of (elim [ Failed l k kind ↦ true | _ ↦ false ]) g
 
 -- the cut lines of transfers that flew when the line was written
 abbrev pub flight_cuts : History → ℕ
@@ -221,16 +203,10 @@ flight_cuts (e ∷ g) = flight_cuts g
 
 -- the transfers that are over: landed, failed or cut
 abbrev pub ends : History → ℕ
-ends [] = 0
-ends ((Landed l k, bytes) ∷ g) = ends g + 1
-ends ((Failed l k kind, bytes) ∷ g) = ends g + 1
-ends ((Cut l k c, bytes) ∷ g) = ends g + 1
-ends (e ∷ g) = ends g
+ends g = count_of (elim [ Landed l k ↦ true | Failed l k kind ↦ true | Cut l k c ↦ true | _ ↦ false ]) g
 
 abbrev pub returned : History → ℕ
-returned [] = 0
-returned ((TxHome l k, bytes) ∷ g) = returned g + 1
-returned (e ∷ g) = returned g
+returned g = count_of (elim [ TxHome l k ↦ true | _ ↦ false ]) g
 
 -- the receive requests that are posted
 abbrev pub posted : History → ℕ

@@ -13,6 +13,8 @@ use Rattle.un_journal.specs.Script.{Script, planned}
 use Rattle.un_journal.specs.History.{Entry, History, concerns, mark}
 use Rattle.un_journal.specs.Lookup.{controls_done, phase_after, is_stopping, is_leaving}
 use Rattle.un_journal.specs.Step.{all_home}
+use Rattle.std.specs.Prelude.{◌≡◌, ℕ, ◌<◌, true, false, ◌||◌, [], ◌∷◌, Some, None, slice_get, filter, reverse}
+use Rattle.un_frame.specs.declared.kinds.Phase.TheVariants.{Down}
 
 -- whether an order gives up transfers of the lane, whether it stops the link
 abbrev pub Cuts : Order → Lane → Type 0
@@ -67,3 +69,8 @@ Licensed script older (Dropped l a b c, bytes) = IsCause script older c Stops
 Licensed script older (Settled t1 r1 t2 r2, bytes) = FindsHome script (reverse older) t1 r1 t2 r2
 Licensed script older (Line.Control c f, bytes) = IsOrder script older c
 Licensed script older (e, bytes) = Unit {0}
+
+-- every line is licensed at its place
+abbrev pub AllLicensed : Script → History → Type 0
+AllLicensed script [] = Unit {0}
+AllLicensed script (e ∷ older) = Licensed script older e × AllLicensed script older

@@ -1,6 +1,7 @@
 -- What a history says with its script: the phase, the feeds, the requests at home, the next block, the queues. The
 -- rules on blocks follow the Linux drivers cdc_ncm, outward, and f_ncm, inward.
 use Rattle.std.specs.Prelude.{ℕ, zero, suc, ◌+◌, ◌-◌, min, Bool, true, false, not, ◌&&◌, ◌||◌, nat_lt, List, [], ◌∷◌, ◌++◌, reverse, length, drop, Option, Some, None, unwrap_or, is_some, slice_get, if◌then◌else◌}
+use Rattle.un_frame.specs.declared.params.TheConstants.{TIMER_TICKS}
 use Rattle.un_frame.specs.declared.params.Lane.{Lane}
 use Rattle.un_frame.specs.declared.params.Lane.TheVariants.{Outward, Inward}
 use Rattle.un_frame.specs.declared.kinds.Phase.{Phase}
@@ -13,7 +14,7 @@ use Rattle.un_journal.specs.declared.lines.Line.TheVariants.{Took, Cut, Settled}
 use Rattle.un_journal.specs.declared.controls.Control.{Control as Order}
 use Rattle.un_journal.specs.declared.controls.Due.{Due}
 use Rattle.un_journal.specs.Script.{Script, Frame, frames_of}
-use Rattle.un_journal.specs.History.{History, taken, consumed, made, cover, built, took_last, waited_after, returned, posts, recalls, failures, flight_cuts, delivered, landed, waiting, those, flies, waits, mark, more_if}
+use Rattle.un_journal.specs.History.{History, taken, consumed, made, cover, built, took_last, waited_after, returned, posts, recalls, failures, flight_cuts, delivered, landed, waiting, those, flies, waits, mark, count_of}
 
 -- PHASE
 
@@ -69,9 +70,7 @@ works phase = is_awake phase || is_asleep phase
 
 -- how many controls were done
 abbrev pub controls_done : History → ℕ
-controls_done [] = 0
-controls_done ((Line.Control c f, bytes) ∷ h) = controls_done h + 1
-controls_done (e ∷ h) = controls_done h
+controls_done h = count_of (elim [ Line.Control c f ↦ true | _ ↦ false ]) h
 
 -- FEEDS AND DATAGRAMS, of the lane's lines g, the newest first
 
@@ -139,9 +138,7 @@ landings g = those (landed g) (made g)
 
 -- how many cut lines are of a transfer that passes
 abbrev pub cuts_of : (ℕ → Bool) → History → ℕ
-cuts_of test [] = 0
-cuts_of test ((Cut lane k cause, bytes) ∷ g) = more_if (test k) (cuts_of test g)
-cuts_of test (e ∷ g) = cuts_of test g
+cuts_of test g = count_of (elim [ Cut lane k cause ↦ test k | _ ↦ false ]) g
 
 -- whether an offer whose lines these are needs a home request, g being the lines before it
 abbrev pub offer_needs_home : Params → Lane → History → Option (ℕ × ℕ) → Bool
@@ -153,10 +150,10 @@ abbrev pub tick_needs_home : Params → Lane → History → Bool
 tick_needs_home params Outward g = not (block_open params Outward g)
 tick_needs_home params Inward g = true
 
--- the ticks that an open outward block waits yet: 3 since its second datagram was accepted, or its first, less those that were waited
+-- the ticks that an open outward block waits yet: those of the timer since its second datagram was accepted, or its first, less those that were waited
 abbrev pub pending : Params → Lane → History → ℕ
 pending params Outward g =
-    if block_open params Outward g then 3 - waited_after g (min (taken g - 1) (cover g + 1)) else 0
+    if block_open params Outward g then TIMER_TICKS - waited_after g (min (taken g - 1) (cover g + 1)) else 0
 pending params Inward g = 0
 
 -- QUEUES

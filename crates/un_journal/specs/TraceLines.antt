@@ -1,5 +1,5 @@
 -- How a trace's line is read: by its first word, and then each word by its field. That this reads exactly the texts of entries is
--- proved (proofs/ReadLines).
+-- proved (proofs/Text/LinesRead).
 use Rattle.std.specs.Prelude.{◌≡◌, ℕ, ◌==◌, List, [], ◌∷◌, ◌++◌, length, codes, Option, Some, None, Result, Ok, Err, if◌then◌else◌}
 use Rattle.std.specs.Str.{bytes_eq}
 use Rattle.un_frame.specs.Spelling.{lane_named}
@@ -28,31 +28,31 @@ first_read read (word ∷ words) = do
   Some (x, words)
 
 -- a line of so many fields, each read by its type, and the words behind them
-abbrev pub Found : Type 0
-Found = Line × List (List ℕ)
+abbrev pub Parsed : Type 0
+Parsed = Line × List (List ℕ)
 
-abbrev pub one : {A : Type 0} → (List ℕ → Option A) → (A → Line) → List (List ℕ) → Option Found
+abbrev pub one : {A : Type 0} → (List ℕ → Option A) → (A → Line) → List (List ℕ) → Option Parsed
 one read line words = do
   x ← first_read read words
   Some (line x.0, x.1)
 
-abbrev pub two : {A B : Type 0} → (List ℕ → Option A) → (List ℕ → Option B) → (A → B → Line) → List (List ℕ) → Option Found
+abbrev pub two : {A B : Type 0} → (List ℕ → Option A) → (List ℕ → Option B) → (A → B → Line) → List (List ℕ) → Option Parsed
 two read next line words = do
   x ← first_read read words
   one next (line x.0) x.1
 
-abbrev pub three : {A B C : Type 0} → (List ℕ → Option A) → (List ℕ → Option B) → (List ℕ → Option C) → (A → B → C → Line) → List (List ℕ) → Option Found
+abbrev pub three : {A B C : Type 0} → (List ℕ → Option A) → (List ℕ → Option B) → (List ℕ → Option C) → (A → B → C → Line) → List (List ℕ) → Option Parsed
 three read next third line words = do
   x ← first_read read words
   two next third (line x.0) x.1
 
-abbrev pub four : {A B C D : Type 0} → (List ℕ → Option A) → (List ℕ → Option B) → (List ℕ → Option C) → (List ℕ → Option D) → (A → B → C → D → Line) → List (List ℕ) → Option Found
+abbrev pub four : {A B C D : Type 0} → (List ℕ → Option A) → (List ℕ → Option B) → (List ℕ → Option C) → (List ℕ → Option D) → (A → B → C → D → Line) → List (List ℕ) → Option Parsed
 four read next third last line words = do
   x ← first_read read words
   three next third last (line x.0) x.1
 
 -- The line of a name, whose fields stand first in the words: rows of one field, of two, of three and of four.
-abbrev pub one_named : List ℕ → List (List ℕ) → Option Found
+abbrev pub one_named : List ℕ → List (List ℕ) → Option Parsed
 one_named name words =
     if bytes_eq name (codes "waited") then one lane_named Waited words
     else (if bytes_eq name (codes "posted") then one lane_named Posted words
@@ -60,7 +60,7 @@ one_named name words =
     else (if bytes_eq name (codes "cleared") then one lane_named Cleared words
     else None)))
 
-abbrev pub two_named : List ℕ → List (List ℕ) → Option Found
+abbrev pub two_named : List ℕ → List (List ℕ) → Option Parsed
 two_named name words =
     if bytes_eq name (codes "took") then two lane_named short_in Took words
     else (if bytes_eq name (codes "flying") then two lane_named long_in Flying words
@@ -71,7 +71,7 @@ two_named name words =
     else (if bytes_eq name (codes "did") then two short_in flag_in Control words
     else None))))))
 
-abbrev pub three_named : List ℕ → List (List ℕ) → Option Found
+abbrev pub three_named : List ℕ → List (List ℕ) → Option Parsed
 three_named name words =
     if bytes_eq name (codes "refused") then three lane_named short_in why_in Refused words
     else (if bytes_eq name (codes "failed") then three lane_named long_in kind_named Failed words
@@ -79,18 +79,18 @@ three_named name words =
     else (if bytes_eq name (codes "cut") then three lane_named long_in short_in Cut words
     else None)))
 
-abbrev pub four_named : List ℕ → List (List ℕ) → Option Found
+abbrev pub four_named : List ℕ → List (List ℕ) → Option Parsed
 four_named name words =
     if bytes_eq name (codes "made") then four lane_named long_in long_in long_in Made words
     else (if bytes_eq name (codes "dropped") then four lane_named long_in long_in short_in Dropped words
     else (if bytes_eq name (codes "settled") then four short_in short_in short_in short_in Settled words
     else None))
 
-abbrev pub or : Option Found → Option Found → Option Found
+abbrev pub or : Option Parsed → Option Parsed → Option Parsed
 or (Some found) other = Some found
 or None other = other
 
-abbrev pub line_named : List ℕ → List (List ℕ) → Option Found
+abbrev pub line_named : List ℕ → List (List ℕ) → Option Parsed
 line_named name words = or (one_named name words) (or (two_named name words) (or (three_named name words) (four_named name words)))
 
 -- The digits of a line's bytes: the only word that is left where it carries bytes; else no word is left.
@@ -108,7 +108,7 @@ digits_left (Gave l n) words = only_word words
 digits_left line words = no_word words
 
 -- a line with these digits in the place of its bytes
-abbrev pub with_digits : Found → Option Entry
+abbrev pub with_digits : Parsed → Option Entry
 with_digits found = do
   digits ← digits_left found.0 found.1
   Some (found.0, digits)

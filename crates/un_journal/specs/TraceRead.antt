@@ -16,8 +16,8 @@ abbrev pub BeginsTrace : List ℕ → Type 0
 BeginsTrace text = (h : History) × (rest : List ℕ) × AreEntries h × (trace h ≡ text ++ rest)
 
 -- nothing, or lines with their line feeds
-abbrev pub IsWhole : List ℕ → Type 0
-IsWhole text = (text ≡ []) ⊎ ((front : List ℕ) × (text ≡ front ++ 10 ∷ []))
+abbrev pub AreWholeLines : List ℕ → Type 0
+AreWholeLines text = (text ≡ []) ⊎ ((front : List ℕ) × (text ≡ front ++ 10 ∷ []))
 
 -- The text isn't a history's. The lines before this one are the beginning of some history's text, and with this one they aren't;
 -- or there is no such line with a line feed. Lines count from 1.
@@ -25,7 +25,7 @@ pub record IsFirstBad (text : List ℕ) (line : ℕ) : Type 0 where
   pub before : List ℕ
   pub rest : List ℕ
   pub parts : text ≡ before ++ rest
-  pub is_whole : IsWhole before
+  pub is_whole : AreWholeLines before
   pub number : line ≡ feeds before + 1
   pub begins : BeginsTrace before
   pub stops : (next after : List ℕ) → feeds next ≡ 0 → rest ≡ next ++ 10 ∷ after → BeginsTrace (before ++ next ++ 10 ∷ []) → ⊥

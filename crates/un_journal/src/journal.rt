@@ -74,7 +74,7 @@ impl Journal {
     }
 
     /// How many lines there are.
-    #[tactic(auto, using(crate::proofs::Entries::entries_length))]
+    #[tactic(auto, using(crate::proofs::StoredEntries::entries_length))]
     pub fn len(&self) -> u64
         ensures { result ≡ length self.now.history }
     {
@@ -123,7 +123,7 @@ impl Journal {
     }
 
     /// Each entry has numbers of its fields' types, bytes as its kind says, and, where it is a refusal, a verdict that refuses.
-    pub fn keeps_entries(&self)
+    pub fn prove_entries(&self)
         ensures { AreEntries self.now.history }
     {
         let _ = &self.lines;

@@ -1,7 +1,7 @@
 //! The laws over every history that a link can have, each the contract of a call that does nothing: a crate above takes a law from
 //! here. A history is legal where steps left it, one after the other; a moment of it is legal itself, so each law holds at every
 //! moment. The laws on unchanged, spelled and bounded bytes need parameters that are in their ranges and agree; those on what is done,
-//! lost and cut need them in their ranges, as each script's are (`Script::is_ready` of `un_script`).
+//! lost and cut need them in their ranges, as each script's are (`Script::prove_ready` of `un_script`).
 
 ghost use Rattle.un_journal.specs.Laws.{
   ActsStayLegal,

@@ -30,7 +30,7 @@ pub use laws::{
     refusals_write_nothing, settled_is_home, steps_stay_legal, table_is_computed,
 };
 pub use lines::Line;
-pub use machine::{Flight, Machine, Transfer};
+pub use machine::{FlightKey, Machine, Transfer};
 pub use texts::{entries_are_read, histories_are_read, traces_are_read};
 pub use trace_reader::{TraceError, read_trace};
 pub use writer::write_trace;

@@ -4,7 +4,7 @@
 ghost use Rattle.std.specs.Prelude.{◌≡◌, ◌<◌, ◌++◌, ℕ, true, List, Bool, []};
 ghost use Rattle.un_frame.specs.declared.params.Lane.{Lane};
 ghost use Rattle.un_journal.specs.declared.got.Got.{Got};
-ghost use Rattle.un_journal.specs.declared.machine.Flight.{Flight};
+ghost use Rattle.un_journal.specs.declared.machine.FlightKey.{FlightKey};
 ghost use Rattle.un_journal.specs.declared.machine.Transfer.{Transfer};
 ghost use Rattle.un_journal.specs.Flights.{times, Takes, Loses};
 ghost use Rattle.un_journal.specs.History.{History};
@@ -25,7 +25,7 @@ pub struct Transfer {
 
 /// A flight that is out of a machine, as plain data: its transfer, and the numbers and capacities (in bytes) of its transmit and
 /// its receive request. No value of it is made: contracts alone speak of it.
-pub struct Flight {
+pub struct FlightKey {
     pub transfer: Transfer,
     pub tx: u32,
     pub tx_capacity: u32,
@@ -57,12 +57,12 @@ pub trait Machine: Drop {
     ghost history: { Self → History };
 
     // The flights that are out.
-    ghost flights: { Self → List Flight };
+    ghost flights: { Self → List FlightKey };
 
     // The flight that a part is, and that a carried part is.
-    ghost flight_of: { Self.Part → Flight };
+    ghost flight_of: { Self.Part → FlightKey };
 
-    ghost carried_flight_of: { Self.Done → Flight };
+    ghost carried_flight_of: { Self.Done → FlightKey };
 
     // What each call answers and which lines it adds, after a history.
     ghost answer: { Self.Script → History → Self.Act → Self.Ans };

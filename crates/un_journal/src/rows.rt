@@ -145,7 +145,7 @@ fn named<'a>(name: &[u8], rest: Option<&'a [u8]>) -> Option<(Line, Option<&'a [u
 }
 
 /// The word of a line's bytes, which is the only one left where the line carries some; empty where it carries none, and none is left.
-#[tactic(auto, using(crate::proofs::ReadLines::some_left, crate::proofs::ReadLines::more_left))]
+#[tactic(auto, using(crate::proofs::Text::LinesRead::some_left, crate::proofs::Text::LinesRead::more_left))]
 fn digits(line: Line, rest: Option<&[u8]>) -> Option<&[u8]>
     ensures { MatchOption result (digits_left line (left (λ t. t.now) rest.entry) ≡ None) (λ d. digits_left line (left (λ t. t.now) rest.entry) ≡ Some d.now) }
 {
@@ -164,7 +164,7 @@ fn digits(line: Line, rest: Option<&[u8]>) -> Option<&[u8]>
 }
 
 /// A line of a trace without its line feed, and the word of its bytes, empty where it carries none. The word isn't read yet.
-#[tactic(auto, using(crate::proofs::ReadLines::heard))]
+#[tactic(auto, using(crate::proofs::Text::LinesRead::heard))]
 pub fn line(text: &[u8]) -> Option<(Line, &[u8])>
     ensures { MatchOption result (line_in text.now ≡ None) (λ p. line_in text.now ≡ Some (p.0, p.1.now)) }
 {

@@ -1,4 +1,4 @@
-use Rattle.un_journal.proofs.Entries.{entries_get, got}
+use Rattle.un_journal.proofs.StoredEntries.{entries_get, got}
 use Rattle.un_journal.proofs.journal.entry.Goals as goal
 
 pub returns : goal.returns

@@ -1,5 +1,5 @@
 use Rattle.std.proofs.Common.{◌≡◌, ◌++◌, length, length-append, ap, ◌∙◌, arith, rules}
-use Rattle.un_journal.proofs.Entries.{are_more, entries_push}
+use Rattle.un_journal.proofs.StoredEntries.{are_more, entries_push}
 use Rattle.std.proofs.lemmas.List.Elements.{recursion_from_All}
 use Rattle.un_journal.proofs.journal.store.Goals as goal
 

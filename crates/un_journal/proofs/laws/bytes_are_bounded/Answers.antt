@@ -1,5 +1,5 @@
-use Rattle.un_journal.proofs.Room.{legal_room}
-use Rattle.un_journal.proofs.Ranges.{wire_holds}
+use Rattle.un_journal.proofs.Bounds.ByteBound.{legal_room}
+use Rattle.un_journal.proofs.Bounds.Parameters.{wire_holds}
 use Rattle.un_journal.proofs.laws.bytes_are_bounded.Goals as goal
 
 pub returns : goal.returns

@@ -1,7 +1,7 @@
 use Rattle.un_journal.specs.History.{past}
 use Rattle.un_journal.specs.Lookup.{phase_of}
-use Rattle.un_journal.proofs.Counts.{adds_up, names_place, is_nowhere}
-use Rattle.un_journal.proofs.Steps.{legal_good}
+use Rattle.un_journal.proofs.Lanes.CensusCounts.{adds_up, names_place, is_nowhere}
+use Rattle.un_journal.proofs.Steps.StaySound.{legal_good}
 use Rattle.un_journal.proofs.laws.census_names_the_place.Goals as goal
 
 pub returns : goal.returns

@@ -1,7 +1,7 @@
 use Rattle.un_journal.specs.Drain.{drain}
-use Rattle.un_journal.proofs.Closed.{cut_off, given_prefix}
-use Rattle.un_journal.proofs.Drained.{drain_extends}
-use Rattle.un_journal.proofs.Ranges.{have_pools}
+use Rattle.un_journal.proofs.Finish.DoneIsFinal.{cut_off, given_prefix}
+use Rattle.un_journal.proofs.Finish.Drain.{drain_extends}
+use Rattle.un_journal.proofs.Bounds.Parameters.{have_pools}
 use Rattle.un_journal.proofs.laws.cut_is_settled.Goals as goal
 
 pub returns : goal.returns

@@ -1,5 +1,5 @@
-use Rattle.un_journal.proofs.Finished.{done_finished}
-use Rattle.un_journal.proofs.Ranges.{have_pools}
+use Rattle.un_journal.proofs.Finish.Finished.{done_finished}
+use Rattle.un_journal.proofs.Bounds.Parameters.{have_pools}
 use Rattle.un_journal.proofs.laws.done_is_finished.Goals as goal
 
 pub returns : goal.returns

@@ -1,5 +1,5 @@
-use Rattle.un_journal.proofs.Going.{legal_drain}
-use Rattle.un_journal.proofs.Drained.{enough_fuel, drain_done}
+use Rattle.un_journal.proofs.Steps.StayLegal.{legal_drain}
+use Rattle.un_journal.proofs.Finish.Drain.{enough_fuel, drain_done}
 use Rattle.un_journal.proofs.laws.drain_is_done.Goals as goal
 
 pub returns : goal.returns

@@ -1,6 +1,6 @@
-use Rattle.un_journal.proofs.Closed.{quiet_done, done_quiet}
-use Rattle.un_journal.proofs.Moments.{goes_no_further}
-use Rattle.un_journal.proofs.Ranges.{have_pools}
+use Rattle.un_journal.proofs.Finish.DoneIsFinal.{quiet_done, done_quiet}
+use Rattle.un_journal.proofs.Steps.OneWay.{goes_no_further}
+use Rattle.un_journal.proofs.Bounds.Parameters.{have_pools}
 use Rattle.un_journal.proofs.laws.finished_is_final.Goals as goal
 
 pub returns : goal.returns

@@ -1,8 +1,8 @@
 use Rattle.un_journal.specs.History.{past}
-use Rattle.un_journal.proofs.Given.{given_rises, given_taken}
-use Rattle.un_journal.proofs.Formed.{legal_formed}
-use Rattle.un_journal.proofs.Ranges.{wire_holds}
-use Rattle.un_journal.proofs.Steps.{legal_good}
+use Rattle.un_journal.proofs.Lanes.GivenOrder.{given_rises, given_taken}
+use Rattle.un_journal.proofs.Bytes.TransferBytes.{legal_formed}
+use Rattle.un_journal.proofs.Bounds.Parameters.{wire_holds}
+use Rattle.un_journal.proofs.Steps.StaySound.{legal_good}
 use Rattle.un_journal.proofs.laws.given_is_accepted.Goals as goal
 
 pub returns : goal.returns

@@ -1,5 +1,5 @@
-use Rattle.un_journal.proofs.Spelled.{spelled_at}
-use Rattle.un_journal.proofs.Ranges.{wire_holds}
+use Rattle.un_journal.proofs.Bytes.Spelled.{spelled_at}
+use Rattle.un_journal.proofs.Bounds.Parameters.{wire_holds}
 use Rattle.un_journal.proofs.laws.lines_are_spelled.Goals as goal
 
 pub returns : goal.returns

@@ -1,4 +1,4 @@
-use Rattle.un_journal.proofs.Spelled.{licensed_at}
+use Rattle.un_journal.proofs.Bytes.Spelled.{licensed_at}
 use Rattle.un_journal.proofs.laws.losses_are_licensed.Goals as goal
 
 pub returns : goal.returns

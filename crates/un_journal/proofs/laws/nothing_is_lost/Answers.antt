@@ -1,5 +1,5 @@
-use Rattle.un_journal.proofs.NoLoss.{nothing_lost}
-use Rattle.un_journal.proofs.Ranges.{have_pools}
+use Rattle.un_journal.proofs.Finish.NothingLost.{nothing_lost}
+use Rattle.un_journal.proofs.Bounds.Parameters.{have_pools}
 use Rattle.un_journal.proofs.laws.nothing_is_lost.Goals as goal
 
 pub returns : goal.returns

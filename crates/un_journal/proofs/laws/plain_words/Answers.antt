@@ -1,6 +1,6 @@
 use Rattle.un_journal.specs.History.{past}
-use Rattle.un_journal.proofs.BaseWords.{base_words}
-use Rattle.un_journal.proofs.Steps.{legal_good}
+use Rattle.un_journal.proofs.Lanes.PlainWords.{base_words}
+use Rattle.un_journal.proofs.Steps.StaySound.{legal_good}
 use Rattle.un_journal.proofs.laws.plain_words.Goals as goal
 
 pub returns : goal.returns

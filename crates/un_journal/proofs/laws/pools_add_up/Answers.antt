@@ -1,7 +1,7 @@
 use Rattle.un_journal.specs.History.{past}
-use Rattle.un_journal.proofs.Steps.{legal_good}
-use Rattle.un_journal.proofs.Homes.{legal_sums, away_some, away_none}
-use Rattle.un_journal.proofs.Flown.{cuts_flew, somewhere}
+use Rattle.un_journal.proofs.Steps.StaySound.{legal_good}
+use Rattle.un_journal.proofs.Lanes.PoolSums.{legal_sums, away_some, away_none}
+use Rattle.un_journal.proofs.Lanes.FlightCuts.{cuts_flew, somewhere}
 use Rattle.un_journal.proofs.laws.pools_add_up.Goals as goal
 
 pub returns : goal.returns

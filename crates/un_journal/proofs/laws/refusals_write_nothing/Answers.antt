@@ -1,4 +1,4 @@
-use Rattle.un_journal.proofs.Going.{refused}
+use Rattle.un_journal.proofs.Steps.StayLegal.{refused}
 use Rattle.un_journal.proofs.laws.refusals_write_nothing.Goals as goal
 
 pub returns : goal.returns

@@ -1,4 +1,4 @@
-use Rattle.un_journal.proofs.Going.{legal_act, legal_run}
+use Rattle.un_journal.proofs.Steps.StayLegal.{legal_act, legal_run}
 use Rattle.un_journal.proofs.laws.steps_stay_legal.Goals as goal
 
 pub returns : goal.returns

@@ -1,6 +1,6 @@
-use Rattle.un_journal.proofs.Complete.{outcome_fits}
-use Rattle.un_journal.proofs.Unique.{fits_outcome}
-use Rattle.un_journal.proofs.Steps.{legal_good}
+use Rattle.un_journal.proofs.Steps.OutcomesFit.{outcome_fits}
+use Rattle.un_journal.proofs.Steps.OneStep.{fits_outcome}
+use Rattle.un_journal.proofs.Steps.StaySound.{legal_good}
 use Rattle.un_journal.proofs.laws.table_is_computed.Goals as goal
 
 pub returns : goal.returns

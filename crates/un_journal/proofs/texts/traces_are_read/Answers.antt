@@ -1,4 +1,4 @@
-use Rattle.un_journal.proofs.TextUnique.{traces}
+use Rattle.un_journal.proofs.Text.OneText.{traces}
 use Rattle.un_journal.proofs.texts.traces_are_read.Goals as goal
 
 pub returns : goal.returns

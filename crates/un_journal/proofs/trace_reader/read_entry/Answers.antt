@@ -1,7 +1,7 @@
 use Rattle.std.proofs.Common.{length, length-append, ap, ◌∙◌}
 use Rattle.std.proofs.lemmas.List.Elements.{recursion_from_All}
-use Rattle.un_journal.proofs.Entries.{entries_push}
-use Rattle.un_journal.proofs.ReadEntries.{entry_as}
+use Rattle.un_journal.proofs.StoredEntries.{entries_push}
+use Rattle.un_journal.proofs.Text.EntriesRead.{entry_as}
 use Rattle.un_journal.proofs.trace_reader.read_entry.Goals as goal
 
 pub returns-in-Ok-clause-read : goal.returns-in-Ok-clause-read

@@ -2,7 +2,7 @@ use Rattle.std.proofs.Common.{◌≡◌, ◌+◌, ◌∷◌, length, length-appe
 use Rattle.std.proofs.lemmas.Bool.{eqb-true, eqb-false}
 use Rattle.std.proofs.lemmas.List.Elements.{All-nil}
 use Rattle.un_journal.specs.Log.{entries_of}
-use Rattle.un_journal.proofs.ReadTraces.{bad_first, bad_rest, no_head, other_head, same_head, done, late, outside, grown, none_of}
+use Rattle.un_journal.proofs.Text.TracesRead.{bad_first, bad_rest, no_head, other_head, same_head, done, late, outside, grown, none_of}
 use Rattle.un_journal.proofs.trace_reader.read_trace.Goals as goal
 
 pub returns-in_default : goal.returns-in_default

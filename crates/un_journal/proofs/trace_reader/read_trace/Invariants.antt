@@ -1,7 +1,7 @@
 use Rattle.std.proofs.Common.{◌≡◌, ◌+◌, ◌≤◌, length, vec_len}
 use Rattle.std.specs.List.{All}
 use Rattle.un_journal.specs.Log.{IsStored, entries_of}
-use Rattle.un_journal.proofs.ReadTraces.{Behind}
+use Rattle.un_journal.proofs.Text.TracesRead.{Behind}
 use Rattle.un_journal.proofs.trace_reader.read_trace.Given as goal
 
 abbrev pub invariant-loop-line : goal.invariant-loop-line

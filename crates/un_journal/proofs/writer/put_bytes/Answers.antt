@@ -1,6 +1,6 @@
 use Rattle.std.proofs.Common.{arith}
 use Rattle.un_text.proofs.Putting.{puts_then, puts_as}
-use Rattle.un_journal.proofs.TextLemmas.{bytes_text}
+use Rattle.un_journal.proofs.Text.LineParts.{bytes_text}
 use Rattle.un_journal.proofs.writer.put_bytes.Goals as goal
 
 pub returns-then-bytes-gt0 : goal.returns-then-bytes-gt0

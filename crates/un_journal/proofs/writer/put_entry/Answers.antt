@@ -1,6 +1,6 @@
 use Rattle.std.proofs.Common.{refl}
 use Rattle.un_text.proofs.Putting.{puts_three, puts_as, puts_pending}
-use Rattle.un_journal.proofs.TextLemmas.{line_text}
+use Rattle.un_journal.proofs.Text.LineParts.{line_text}
 use Rattle.un_journal.proofs.writer.put_entry.Goals as goal
 
 pub returns : goal.returns

@@ -1,6 +1,6 @@
 use Rattle.std.proofs.Common.{add-one, arith}
 use Rattle.un_text.proofs.Putting.{puts_then, puts_end, puts_as, whole_written, whole_stopped}
-use Rattle.un_journal.proofs.TextLemmas.{so_far_more, so_far_all}
+use Rattle.un_journal.proofs.Text.LineParts.{so_far_more, so_far_all}
 use Rattle.un_journal.proofs.writer.write_trace.Goals as goal
 
 pub loop-index-preserved : goal.loop-index-preserved

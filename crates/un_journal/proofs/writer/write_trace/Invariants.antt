@@ -1,4 +1,4 @@
-use Rattle.un_journal.proofs.TextLemmas.{so_far}
+use Rattle.un_journal.proofs.Text.LineParts.{so_far}
 use Rattle.un_text.specs.Puts.{Puts, blank}
 use Rattle.un_journal.proofs.writer.write_trace.Given as goal
 

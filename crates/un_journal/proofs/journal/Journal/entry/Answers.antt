@@ -1,6 +1,6 @@
 use Rattle.std.proofs.Common.{length, ap, arith}
 use Rattle.un_journal.specs.Log.{Log}
-use Rattle.un_journal.proofs.Entries.{entries_length}
+use Rattle.un_journal.proofs.StoredEntries.{entries_length}
 use Rattle.un_journal.proofs.journal.Journal.entry.Goals as goal
 
 pub entry-requires-clause-within : goal.entry-requires-clause-within
