@@ -4,43 +4,28 @@ use Rattle.std.proofs.Math.Seq.{take-append_seam, drop-append_seam}
 use Rattle.std.proofs.lemmas.Bool.{false≢true, ltb-true}
 use Rattle.std.proofs.lemmas.List.{take_all}
 use Rattle.un_facts.specs.Lists.{is_empty}
+use Rattle.un_frame.proofs.AllLaws.{laws_of}
 use Rattle.un_frame.proofs.FrameLemmas.{map_length_more}
-use Rattle.un_frame.specs.declared.params.Class.{Class}
-use Rattle.un_frame.specs.declared.params.Class.TheVariants.{Ecm, Eem, Ncm16, Ncm32}
 use Rattle.un_frame.specs.declared.params.Lane.{Lane}
 use Rattle.un_frame.specs.declared.params.Lane.TheVariants.{Outward, Inward}
 use Rattle.un_frame.specs.declared.params.Params.{Params}
 use Rattle.un_frame.specs.Cut.{closed_span, ends_at_limit}
-use Rattle.un_frame.specs.Lanes.{builds_blocks, packs, frames_fit, sizes_fit_as}
-use Rattle.un_frame.specs.NtbForm.{least_place, least_multiple, datagrams_end}
-use Rattle.un_frame.specs.Wire.{capacity_of, capacity_as, fits_as, frame_fits}
+use Rattle.un_frame.specs.Lanes.{packs, frames_fit, sizes_fit_as}
+use Rattle.un_frame.specs.Wire.{capacity_of, frame_fits}
 use Rattle.un_req.specs.Request.{Buffer}
 use Rattle.un_endpoint.specs.declared.outcome.Built.{Built}
 use Rattle.un_endpoint.specs.declared.outcome.Built.TheVariants as built
 use Rattle.un_agg.specs.Held.{Claim, Held, claim_of}
 use Rattle.un_agg.specs.Block.{IsTransfer}
-use Rattle.un_agg.specs.Building.{Adds, AddsKept, AddsMade, ClosesAtLimit, Settles, StaysOpen, keeps_frame, with_frame}
+use Rattle.un_agg.specs.Building.{Adds, AddsKept, AddsMade, ClosesAtLimit, ClosesIfFull, StaysOpen, keeps_frame, with_frame}
 
 -- a frame that fits an empty transfer is no longer than the capacity
-fits_within : (class : Class) (p : Params) (size : ℕ) → IsTrue (fits_as class p [] size) → size ≤ capacity_as class p
-unfolding least_place least_multiple datagrams_end
-fits_within Ecm p size t = grind arith
-fits_within Eem p size t = grind arith
-fits_within Ncm16 p size t = grind arith
-fits_within Ncm32 p size t = grind arith
-
 pub fits_capacity : (p : Params) (size : ℕ) → IsTrue (frame_fits p [] size) → size ≤ capacity_of p
-fits_capacity p size t = fits_within p.class p size t
+fits_capacity p size t = (laws_of p.class).within p size t
 
--- whether frames fit one block together is whether the last fits the open block of those before
-fits_as_sizes : (class : Class) (p : Params) (frames : List (List ℕ)) (frame : List ℕ) → builds_blocks class ≡ true → sizes_fit_as class p (map length (frames ++ frame ∷ [])) ≡ fits_as class p (map length frames) (length frame)
-fits_as_sizes Ecm p frames frame e = absurd (false≢true e)
-fits_as_sizes Eem p frames frame e = absurd (false≢true e)
-fits_as_sizes Ncm16 p frames frame e = ap (λ (ns : List ℕ). sizes_fit_as Ncm16 p ns) (map_length_more frames frame)
-fits_as_sizes Ncm32 p frames frame e = ap (λ (ns : List ℕ). sizes_fit_as Ncm32 p ns) (map_length_more frames frame)
-
+-- where the lane packs, frames fit together where the last fits the open transfer of those before
 pub fits_together : (lane : Lane) (p : Params) (frames : List (List ℕ)) (frame : List ℕ) → packs p.class lane ≡ true → frames_fit p (frames ++ frame ∷ []) ≡ frame_fits p (map length frames) (length frame)
-fits_together lane p frames frame e = fits_as_sizes p.class p frames frame e
+fits_together lane p frames frame e = ap (λ (ns : List ℕ). sizes_fit_as p.class p ns) (map_length_more frames frame) ∙ (laws_of p.class).together lane p (map length frames) (length frame) e
 
 -- THE SPAN THAT A FRAME CLOSES
 
@@ -146,7 +131,7 @@ module _ (old mid new : Held) (claim : Claim) (frame : List ℕ) (number serial 
         rest = at.closed.rest ∙ rw (whole.1, end) refl;
       }
 
-  pub added_settled : (answer : Built) → Settles mid new serial answer → Adds old new claim frame number serial answer
+  pub added_settled : (answer : Built) → ClosesIfFull mid new serial answer → Adds old new claim frame number serial answer
   added_settled built.Kept s = stays s
   added_settled (built.Made request) s = closes request s
   added_settled built.Busy s = absurd s

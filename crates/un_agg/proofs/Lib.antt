@@ -1,3 +1,3 @@
-pub mod BlockLemmas
-pub mod Adding
-pub mod HostLemmas
+mod BlockLemmas
+mod Adding
+mod HostLemmas

@@ -35,10 +35,10 @@ pub record ClosesAtLimit (old new : Held) (serial : ℕ) (request : Buffer) : Ty
   pub at_limit : ends_at_limit Outward old.params (length old.frames) ≡ true
   pub closed : IsClosed old new serial request
 
-abbrev pub Settles : Held → Held → ℕ → Built → Type 0
-Settles old new serial built.Kept = StaysOpen old new
-Settles old new serial (built.Made request) = ClosesAtLimit old new serial request
-Settles old new serial built.Busy = ⊥
+abbrev pub ClosesIfFull : Held → Held → ℕ → Built → Type 0
+ClosesIfFull old new serial built.Kept = StaysOpen old new
+ClosesIfFull old new serial (built.Made request) = ClosesAtLimit old new serial request
+ClosesIfFull old new serial built.Busy = ⊥
 
 -- a host's builder keeps a frame, as this number, in the block that is built in a request
 pub record AddsKept (old new : Held) (claim : Claim) (frame : List ℕ) (number : ℕ) : Type 0 where

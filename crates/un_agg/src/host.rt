@@ -11,15 +11,12 @@ use crate::builder::Builder;
 use std::alloc::{AllocError, Global};
 use std::marker::Model;
 use un_endpoint::{Built, Ticked};
-use un_frame::Lane;
+use un_frame::{Lane, TIMER_TICKS};
 use un_req::{Pool, Request};
 use un_wire::{Codec, Wire};
 
-/// How many ticks an open block waits for after it got its first or its second datagram.
-const TIMER_TICKS: u32 = 3;
-
 /// Builds the host's transfers (after Linux's cdc_ncm): it holds an open block in a request that it claimed of the lane's pool, or the one frame that the last block had no room for,
-/// or nothing. A pending count says how many ticks an open block still waits for; the code sets it to 3, and lowers it. No call after `make` takes memory.
+/// or nothing. A pending count says how many ticks an open block still waits for; the code sets it to `TIMER_TICKS`, and lowers it. No call after `make` takes memory.
 #[derive(Drop)]
 pub struct HostAgg {
     block: OpenBlock,
@@ -120,7 +117,7 @@ impl Builder for HostAgg {
 }
 
 impl HostAgg {
-    ghost use Rattle.un_agg.specs.Building.{Adds, IsClosed, Settles};
+    ghost use Rattle.un_agg.specs.Building.{Adds, IsClosed, ClosesIfFull};
 
     /// Takes a frame where a request was taken for it.
     fn add_in(&mut self, request: Request, frame: &[u8], number: u64, serial: u64) -> Built
@@ -168,7 +165,7 @@ impl HostAgg {
     /// Closes an open block that has reached its limit; else it stays, with its pending count.
     fn close_if_full(&mut self, serial: u64) -> Built
         requires opened { is_some self.old.claim ≡ true }
-        ensures { Settles self.old self.new serial result }
+        ensures { ClosesIfFull self.old self.new serial result }
     {
         if self.block.is_full() {
             return Built::Made(self.close(serial));

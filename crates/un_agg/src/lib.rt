@@ -9,6 +9,8 @@
 //! builder.offer(&mut pool, second, 1, 0);     // Kept, or Made with the block that `second` didn't fit into
 //! builder.tick(&mut pool, 0);                 // Waited three times, and then Made
 //! ```
+//!
+//! A `Builder`'s calls, by what they are for: `offer` and `tick` make transfers; `drop_build` gives up what is built; `can_offer`, `can_tick` and `census` are for one who looks, and change nothing.
 #![tactic(auto)]
 
 mod block;

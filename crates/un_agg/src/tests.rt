@@ -17,19 +17,12 @@ fn params() -> Params
     ensures segment { result.segment ≡ 1514 }
 {
     Params {
-        class: Class::Ncm16,
-        segment: 1514,
-        packet: 512,
-        filter: 0x0e,
         block: 2048,
-        datagrams: 32,
-        divisor: 4,
-        remainder: 0,
-        alignment: 4,
         tx_out: 1,
         rx_out: 1,
         tx_in: 1,
         rx_in: 1,
+        ..Params::of_class(Class::Ncm16)
     }
 }
 

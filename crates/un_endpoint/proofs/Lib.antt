@@ -1,5 +1,5 @@
-pub mod Kept
-pub mod Counts
+mod Kept
+mod Counts
 pub mod Copies
 pub mod Lifts
 pub mod Moves

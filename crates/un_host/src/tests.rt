@@ -2,7 +2,7 @@
 
 ghost use Rattle.un_frame.specs.Params.{Agree, AreInRange};
 
-use crate::{HostRx, HostTx};
+use crate::make;
 use std::test::Fail;
 use un_endpoint::{RxEnd, TxEnd};
 use un_frame::{Class, Params};
@@ -13,27 +13,18 @@ fn params() -> Params
     ensures agree { Agree result }
 {
     Params {
-        class: Class::Eem,
-        segment: 1514,
-        packet: 512,
-        filter: 0x0e,
-        block: 16384,
-        datagrams: 32,
-        divisor: 4,
-        remainder: 0,
-        alignment: 4,
         tx_out: 1,
         rx_out: 2,
         tx_in: 3,
         rx_in: 4,
+        ..Params::of_class(Class::Eem)
     }
 }
 
 #[test]
 fn ends_have_their_requests(rt: HostRuntime) -> Result<(), Fail> {
     let params = params();
-    let tx = HostTx::make(rt.alloc(), &params)?;
-    let rx = HostRx::make(rt.alloc(), &params)?;
+    let (tx, rx) = make(rt.alloc(), &params)?;
     assert_eq!(rt; (tx.home(), rx.home()), (1, 4));
     Ok(())
 }

@@ -1,3 +1,3 @@
-pub mod EndLemmas
-pub mod OpenLemmas
-pub mod RxLemmas
+mod EndLemmas
+mod OpenLemmas
+mod RxLemmas

@@ -12,6 +12,9 @@
 //!     end.advance();                    // after the last datagram the request is home
 //! }
 //! ```
+//!
+//! The calls of `LaneRx` are those of `RxEnd`, by what they are for: `refill`, `give_back` and `arrive` hand requests over; `rx_done`, `lend` and `advance` read what arrived; `rx_census`, `capacity`,
+//! `arrived`, `current` and `home` are for one who looks, and change nothing.
 #![tactic(auto)]
 
 mod lane;

@@ -70,7 +70,7 @@ impl<L: OnLane> LaneRx<L> {
     }
 
     /// Each number of its pool stands in one of its places at most, once, and no other number does: at home, among the arrived requests, or as the current one.
-    pub fn keeps_each_once(&self)
+    pub fn prove_each_once(&self)
         ensures once { (number : ℕ) → rx_copies self.now number ≤ 1 }
         ensures known { (number : ℕ) → self.now.size ≤ number → rx_copies self.now number ≡ 0 }
     {

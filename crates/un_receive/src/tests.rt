@@ -53,7 +53,7 @@ fn blocks() -> Params
 fn post_and_recall<L: OnLane>(end: &mut LaneRx<L>) -> bool
     ensures params { end.new.params ≡ end.old.params }
 {
-    end.keeps_each_once();
+    end.prove_each_once();
     let Some(request) = end.refill() else {
         return false;
     };
@@ -71,7 +71,7 @@ fn receive<L: OnLane>(end: &mut LaneRx<L>, class: Class, bytes: &[u8]) -> bool
     if parts.count() != 2 || bytes.len() > end.capacity() as usize {
         return false;
     }
-    end.keeps_each_once();
+    end.prove_each_once();
     let Some(mut request) = end.refill() else {
         return false;
     };

@@ -1,1 +1,1 @@
-pub mod TxLemmas
+mod TxLemmas

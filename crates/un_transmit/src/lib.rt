@@ -12,6 +12,9 @@
 //! end.finish(request);                  // the bus is done with it
 //! let serial = end.tx_done();           // and it is home
 //! ```
+//!
+//! The calls of `LaneTx` are those of `TxEnd`, by what they are for: `offer`, `tick` and `drop_build` build; `defer` and `next_deferred` keep transfers of a sleeping link; `finish` and `tx_done` bring requests
+//! home; `can_offer`, `can_tick`, `tx_census`, `capacity`, `deferred`, `done` and `home` are for one who looks, and change nothing.
 #![tactic(auto)]
 
 #[cfg(test)]

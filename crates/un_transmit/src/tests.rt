@@ -16,19 +16,11 @@ fn params() -> Params
     ensures segment { result.segment ≡ 1514 }
 {
     Params {
-        class: Class::Eem,
-        segment: 1514,
-        packet: 512,
-        filter: 0x0e,
-        block: 16384,
-        datagrams: 32,
-        divisor: 4,
-        remainder: 0,
-        alignment: 4,
         tx_out: 1,
         rx_out: 1,
         tx_in: 2,
         rx_in: 1,
+        ..Params::of_class(Class::Eem)
     }
 }
 
@@ -37,7 +29,7 @@ fn sent<B: Builder + Drop>(end: &mut LaneTx<B>) -> Option<(usize, (u32, u32), u6
     requires nothing { end.old.builder.frames ≡ [] }
     requires segment { 60 ≤ end.old.params.segment }
 {
-    end.keeps_each_once();
+    end.prove_each_once();
     let Built::Made(made) = end.offer(&[7; 60], 4, 0) else {
         return None;
     };
@@ -56,6 +48,11 @@ fn requests_come_home(rt: HostRuntime) -> Result<(), Fail> {
     );
     assert_eq!(rt; sent(&mut out), Some((66, (1, 0), 0)));
     assert_eq!(rt; (out.done(), out.home(), out.can_tick()), (0, 1, false));
+    Ok(())
+}
+
+#[test]
+fn inward_requests_come_home(rt: HostRuntime) -> Result<(), Fail> {
     let mut inward = LaneTx::<GadWrap>::make(rt.alloc(), &params())?;
     assert_eq!(rt; sent(&mut inward), Some((66, (1, 1), 0)));
     assert_eq!(rt; (inward.done(), inward.home()), (0, 2));
@@ -67,7 +64,7 @@ fn requests_come_home(rt: HostRuntime) -> Result<(), Fail> {
 #[test]
 fn a_transfer_is_deferred(rt: HostRuntime) -> Result<(), Fail> {
     let mut end = LaneTx::<HostAgg>::make(rt.alloc(), &params())?;
-    end.keeps_each_once();
+    end.prove_each_once();
     let Built::Made(made) = end.offer(&[7; 60], 4, 0) else {
         panic!(rt; "nothing was made");
     };

@@ -57,7 +57,7 @@ impl<B: Builder + Drop> LaneTx<B> {
     }
 
     /// Each number of its pool stands in one of its places at most, once, and no other number does: at home, claimed by the builder, among the deferred requests, or among the done ones.
-    pub fn keeps_each_once(&self)
+    pub fn prove_each_once(&self)
         ensures once { (number : ℕ) → tx_copies self.now number ≤ 1 }
         ensures known { (number : ℕ) → self.now.size ≤ number → tx_copies self.now number ≡ 0 }
     {
