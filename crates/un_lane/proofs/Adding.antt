@@ -1,11 +1,10 @@
 -- Lines that a journal has more, and room for lines.
-use Rattle.std.proofs.Common.{◌≡◌, ◌+◌, ◌<◌, ◌≤◌, ◌^◌, ◌++◌, [], length, sym, ap, ◌∙◌, arith, append-nil, append_assoc, length-append}
+use Rattle.std.proofs.Common.{◌≡◌, ◌+◌, ◌<◌, ◌≤◌, ◌^◌, ◌++◌, [], ◌∷◌, take, length, sym, ap, ◌∙◌, arith, append-nil, append_assoc, length-append}
 use Rattle.un_journal.specs.History.{History}
 use Rattle.un_journal.specs.Log.{Log}
 use Rattle.un_journal.specs.Bytes.{bytes_in}
-use Rattle.un_journal.proofs.LinkFacts.{bytes_append}
+use Rattle.un_journal.proofs.ForLane.{bytes_append, past_short, taken_short, made_short}
 use Rattle.un_journal.specs.History.{past, taken, made}
-use Rattle.un_journal.proofs.LinkFacts.{past_short, taken_short, made_short}
 use Rattle.un_lane.specs.Way.{Way, HasRoom, Adds}
 use Rattle.un_lane.specs.Stands.{Stands}
 
@@ -35,6 +34,10 @@ room_front log xs ys r =
     let rb : bytes_in (xs ++ ys) ≤ log.spare_bytes = r.bytes_fit in
     let rc : length log.history + length (xs ++ ys) < 2 ^ 63 = r.counts_fit in
     record { lines_fit = omega arith; bytes_fit = omega arith; counts_fit = omega arith }
+
+pub first_room : (log : Log) (xs ys : History) → HasRoom log (take 1 (xs ++ ys)) → HasRoom log (take 1 xs)
+first_room log [] ys r = room_front log [] (take 1 ys) r
+first_room log (x ∷ xs) ys r = r
 
 pub room_rest : (log log' : Log) (xs ys : History) → HasRoom log (xs ++ ys) → Adds log log' xs → HasRoom log' ys
 room_rest log log' xs ys r a =

@@ -229,37 +229,8 @@ pub waits_stands : (way : Way) (g : History) (t : Transmitter) → Stands way g 
 waits_stands way g t w m =
     let stands : Stands (record way { tx = record way.tx { builder = record way.tx.builder { pending = way.tx.builder.pending - 1 } } }) ((Waited way.lane, []) ∷ g) = record {
       sound = (tt, w.sound);
-      placed = record {
-        side = w.placed.side;
-        one_params = w.placed.one_params;
-        no_deferred = w.placed.no_deferred;
-        tx_size_is = w.placed.tx_size_is;
-        rx_size_is = w.placed.rx_size_is;
-        tx_room_is = w.placed.tx_room_is;
-        rx_room_is = w.placed.rx_room_is;
-        largest_is = w.placed.largest_is;
-        wide = w.placed.wide;
-        tx_once = w.placed.tx_once;
-        tx_some = w.placed.tx_some;
-        rx_once = w.placed.rx_once;
-        rx_some = w.placed.rx_some;
-        tx_all = w.placed.tx_all;
-        rx_all = w.placed.rx_all;
-        deferred_are = w.placed.deferred_are;
-        queued_are = w.placed.queued_are;
-        posted_are = w.placed.posted_are;
-        flight_is = w.placed.flight_is;
-      };
-      building = record {
-        accepted_is = w.building.accepted_is;
-        made_is = w.building.made_is;
-        covered = w.building.covered;
-        from_is = w.building.from_is;
-        claimed = w.building.claimed;
-        pends = pend_less way.lane _ _ way.tx.builder.pending w.building.pends m.pends;
-        blocks = w.building.blocks;
-        remainder = w.building.remainder;
-      };
+      placed = assumption w.placed;
+      building = assumption (w.building, pend_less way.lane _ _ way.tx.builder.pending w.building.pends m.pends);
       queues = w.queues;
       ends = w.ends;
       counts = w.counts;

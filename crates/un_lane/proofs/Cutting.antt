@@ -6,6 +6,7 @@ use Rattle.un_facts.proofs.Numbers.{one_here}
 use Rattle.un_facts.specs.Lists.{copies}
 use Rattle.un_facts.specs.Numbers.{one_if}
 use Rattle.un_frame.specs.declared.params.Lane.{Lane}
+use Rattle.un_frame.specs.declared.params.Lane.TheVariants.{Inward}
 use Rattle.un_req.specs.Request.{Buffer, number_of}
 use Rattle.un_endpoint.specs.Bus.{Bus}
 use Rattle.un_endpoint.specs.Ends.{Transmitter, Receiver, IsAwayTx}
@@ -13,12 +14,12 @@ use Rattle.un_endpoint.specs.EndOutcomes.{IsNextDeferred}
 use Rattle.un_journal.specs.declared.lines.Line.TheVariants.{Cut}
 use Rattle.un_journal.specs.History.{History, made, waiting, flying, ended, landed, failed, was_cut, mark, halted, posts, recalls, flights, first, span, made_bytes, ends}
 use Rattle.un_journal.specs.Sound.{IsNext}
-use Rattle.un_journal.proofs.Legal.{next_from}
-use Rattle.un_journal.proofs.Order.{in_order, next_is}
+use Rattle.un_journal.proofs.ForLane.{next_from, in_order, next_is}
 use Rattle.un_lane.specs.Way.{Way}
 use Rattle.un_lane.specs.Stands.{Stands, ArePlaced, AreQueued, AreMarked, IsTx, IsText, serial_of, flight_serial, flight_tx}
 use Rattle.un_lane.proofs.Counting.{copies_more, map_last}
 use Rattle.un_lane.proofs.Finishing.{finish_plus}
+use Rattle.un_lane.proofs.Placing.{tx_moved}
 use Rattle.un_lane.proofs.Serials.{apart, same_number}
 use Rattle.un_lane.proofs.Taking.{cut_waiting, cut_flying}
 
@@ -50,36 +51,17 @@ cut_placed : (lane : Lane) (t : Transmitter) (r : Receiver) (bus : Bus) (x : Buf
     → ArePlaced lane (record t { deferred = xs; done = t.done ++ x ∷ [] }) r bus
 cut_placed lane t r bus x xs p q =
     let are = subst (AllByRecursion (IsTx t.size t.capacity)) q p.deferred_are in
-    record {
-      side = p.side;
-      one_params = p.one_params;
-      tx_size_is = p.tx_size_is;
-      rx_size_is = p.rx_size_is;
-      no_deferred = λ i. absurd (let l : suc (length xs) ≡ 0 = ap length (sym q ∙ p.no_deferred i) in omega arith);
-      tx_room_is = p.tx_room_is;
-      rx_room_is = p.rx_room_is;
-      largest_is = p.largest_is;
-      wide = p.wide;
-      tx_once = λ n.
+    let none : lane ≡ Inward → xs ≡ [] = λ i. absurd (let l : suc (length xs) ≡ 0 = ap length (sym q ∙ p.no_deferred i) in omega arith) in
+    assumption (
+      p,
+      tx_moved p (record t { deferred = xs; done = t.done ++ x ∷ [] }) bus refl
+          (λ n.
           let e : copies n (map number_of t.deferred) ≡ one_if (eqb n x.number) + copies n (map number_of xs) = ap (λ ys. copies n (map number_of ys)) q in
-          let d : copies n (map number_of (t.done ++ x ∷ [])) ≡ copies n (map number_of t.done) + one_if (eqb n x.number) = copies_more n t.done x in
-          let w : copies n t.home + copies n (option_to_list t.builder.claim) + copies n (map number_of t.deferred) + copies n (map number_of t.done) + (copies n (map number_of bus.queue) + copies n (flight_tx bus.flight)) ≤ 1 = p.tx_once n in omega arith;
-      tx_some = λ n low.
-          let e : copies n (map number_of t.deferred) ≡ one_if (eqb n x.number) + copies n (map number_of xs) = ap (λ ys. copies n (map number_of ys)) q in
-          let d : copies n (map number_of (t.done ++ x ∷ [])) ≡ copies n (map number_of t.done) + one_if (eqb n x.number) = copies_more n t.done x in
-          let w : 1 ≤ copies n t.home + copies n (option_to_list t.builder.claim) + copies n (map number_of t.deferred) + copies n (map number_of t.done) + (copies n (map number_of bus.queue) + copies n (flight_tx bus.flight)) = p.tx_some n low in omega arith;
-      rx_once = p.rx_once;
-      rx_some = p.rx_some;
-      tx_all =
-          let e : length t.deferred ≡ suc (length xs) = ap length q in
-          let d : length (t.done ++ x ∷ []) ≡ length t.done + 1 = length_push t.done x in
-          let w : length t.home + length (option_to_list t.builder.claim) + length t.deferred + length t.done + length bus.queue + length (flight_tx bus.flight) ≡ t.size = p.tx_all in omega arith;
-      rx_all = p.rx_all;
-      deferred_are = are.1;
-      queued_are = p.queued_are;
-      posted_are = p.posted_are;
-      flight_is = p.flight_is;
-    }
+          let d : copies n (map number_of (t.done ++ x ∷ [])) ≡ copies n (map number_of t.done) + one_if (eqb n x.number) = copies_more n t.done x in omega arith)
+          (let e : length t.deferred ≡ suc (length xs) = ap length q in
+          let d : length (t.done ++ x ∷ []) ≡ length t.done + 1 = length_push t.done x in omega arith),
+      are.1,
+    )
 
 cut_queues : (way : Way) (g : History) (x : Buffer) (xs : List Buffer) (c : ℕ) → Stands way g → way.tx.deferred ≡ x ∷ xs → IsNext g x.serial
     → AreQueued xs way.bus (waiting ((Cut way.lane x.serial c, []) ∷ g)) (flying ((Cut way.lane x.serial c, []) ∷ g)) (mark g) (halted g) (posts g) (recalls g) (flights g) (made g)
@@ -118,15 +100,7 @@ cut_stands way g t x c w d =
         left_is = w.ends.left_is;
       };
       counts = rw (next.is_alone x.serial) w.counts;
-      texts = record {
-        deferred_texts = texts.1;
-        queued_texts = w.texts.queued_texts;
-        arrived_texts = w.texts.arrived_texts;
-        current_text = w.texts.current_text;
-        flight_span = w.texts.flight_span;
-        some = w.texts.some;
-        whole = w.texts.whole;
-      };
+      texts = assumption (w.texts, texts.1);
     } in
     subst (λ (u : Transmitter). Stands (record way { tx = record u { done = u.done ++ x ∷ [] } }) ((Cut way.lane x.serial c, []) ∷ g)) (sym d.rest) stands
   where

@@ -1,11 +1,10 @@
 -- A path that has dropped what it built stands for the lane with one line more.
-use Rattle.std.proofs.Common.{◌≡◌, ℕ, suc, ◌+◌, ◌-◌, ◌<◌, ◌≤◌, Bool, true, false, ◌&&◌, ◌==◌, if◌then◌else◌, nat_lt, List, [], ◌∷◌, ◌++◌, length, map, option_to_list, refl, sym, ap, ◌∙◌, subst, arith, length-append}
+use Rattle.std.proofs.Common.{◌≡◌, ℕ, suc, ◌+◌, ◌-◌, ◌<◌, Bool, true, false, ◌&&◌, ◌==◌, if◌then◌else◌, nat_lt, List, [], ◌∷◌, ◌++◌, length, option_to_list, refl, sym, ap, ◌∙◌, subst, arith, length-append}
 use Rattle.std.proofs.lemmas.Bool.Decides.{nat_tests}
 use Rattle.un_facts.proofs.Copies.{copies_append}
 use Rattle.un_facts.specs.Lists.{copies}
 use Rattle.un_frame.specs.declared.params.Lane.{Lane}
 use Rattle.un_frame.specs.declared.params.Lane.TheVariants.{Outward, Inward}
-use Rattle.un_req.specs.Request.{number_of}
 use Rattle.un_endpoint.specs.Bus.{Bus}
 use Rattle.un_endpoint.specs.Ends.{Builder, Transmitter, Receiver}
 use Rattle.un_endpoint.specs.EndOutcomes.{Drops, without_build}
@@ -17,36 +16,16 @@ use Rattle.un_journal.specs.LaneSteps.{bare}
 use Rattle.un_journal.specs.Step.{dropped_built}
 use Rattle.un_lane.specs.Controls.{LeavesBus}
 use Rattle.un_lane.specs.Way.{Way}
-use Rattle.un_lane.specs.Stands.{Stands, ArePlaced, claims_when, pends_when, flight_tx}
+use Rattle.un_lane.specs.Stands.{Stands, ArePlaced, claims_when, pends_when}
+use Rattle.un_lane.proofs.Placing.{tx_moved}
 
 dropped_placed : (lane : Lane) (t : Transmitter) (r : Receiver) (bus : Bus) → ArePlaced lane t r bus → ArePlaced lane (without_build t) r bus
-dropped_placed lane t r bus p = record {
-  side = p.side;
-  one_params = p.one_params;
-  no_deferred = p.no_deferred;
-  tx_size_is = p.tx_size_is;
-  rx_size_is = p.rx_size_is;
-  tx_room_is = p.tx_room_is;
-  rx_room_is = p.rx_room_is;
-  largest_is = p.largest_is;
-  wide = p.wide;
-  tx_once = λ n.
-      let h : copies n (t.home ++ option_to_list t.builder.claim) ≡ copies n t.home + copies n (option_to_list t.builder.claim) = copies_append n t.home (option_to_list t.builder.claim) in
-      let w : copies n t.home + copies n (option_to_list t.builder.claim) + copies n (map number_of t.deferred) + copies n (map number_of t.done) + (copies n (map number_of bus.queue) + copies n (flight_tx bus.flight)) ≤ 1 = p.tx_once n in omega arith;
-  tx_some = λ n low.
-      let h : copies n (t.home ++ option_to_list t.builder.claim) ≡ copies n t.home + copies n (option_to_list t.builder.claim) = copies_append n t.home (option_to_list t.builder.claim) in
-      let w : 1 ≤ copies n t.home + copies n (option_to_list t.builder.claim) + copies n (map number_of t.deferred) + copies n (map number_of t.done) + (copies n (map number_of bus.queue) + copies n (flight_tx bus.flight)) = p.tx_some n low in omega arith;
-  rx_once = p.rx_once;
-  rx_some = p.rx_some;
-  tx_all =
-      let h : length (t.home ++ option_to_list t.builder.claim) ≡ length t.home + length (option_to_list t.builder.claim) = length-append t.home (option_to_list t.builder.claim) in
-      let w : length t.home + length (option_to_list t.builder.claim) + length t.deferred + length t.done + length bus.queue + length (flight_tx bus.flight) ≡ t.size = p.tx_all in omega arith;
-  rx_all = p.rx_all;
-  deferred_are = p.deferred_are;
-  queued_are = p.queued_are;
-  posted_are = p.posted_are;
-  flight_is = p.flight_is;
-}
+dropped_placed lane t r bus p = assumption (
+  p,
+  tx_moved p (without_build t) bus refl
+      (λ n. let h : copies n (t.home ++ option_to_list t.builder.claim) ≡ copies n t.home + copies n (option_to_list t.builder.claim) = copies_append n t.home (option_to_list t.builder.claim) in omega arith)
+      (let h : length (t.home ++ option_to_list t.builder.claim) ≡ length t.home + length (option_to_list t.builder.claim) = length-append t.home (option_to_list t.builder.claim) in omega arith),
+)
 
 none_left : (n m : ℕ) → n ≡ m → nat_lt 0 (n - m) ≡ false
 none_left n m e = grind (arith, nat_tests)

@@ -3,8 +3,7 @@ use Rattle.std.proofs.Common.{◌≡◌, ℕ, ◌<◌, ◌≤◌, Bool, true, fa
 use Rattle.std.proofs.lemmas.Bool.{le-leb}
 use Rattle.un_journal.specs.History.{History, made, those, ended, returned, ends}
 use Rattle.un_journal.specs.Sound.{IsSound}
-use Rattle.un_journal.proofs.Homes.{ended_is, returned_ends}
-use Rattle.un_journal.proofs.Order.{in_order}
+use Rattle.un_journal.proofs.ForLane.{ended_is, returned_ends, in_order}
 use Rattle.un_lane.specs.Stands.{finished}
 use Rattle.un_lane.proofs.Serials.{those_plus}
 

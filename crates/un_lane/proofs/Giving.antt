@@ -1,5 +1,5 @@
 -- A path that has given a datagram, posted a request or cleared the halt stands for the lane with one line more.
-use Rattle.std.proofs.Common.{◌≡◌, ℕ, suc, ◌+◌, ◌-◌, ◌<◌, ◌≤◌, Bool, true, false, not, ◌&&◌, eqb, List, [], ◌∷◌, ◌++◌, length, map, Some, None, refl, sym, ap, ◌∙◌, subst, arith}
+use Rattle.std.proofs.Common.{◌≡◌, ℕ, suc, ◌+◌, ◌-◌, ◌<◌, ◌≤◌, Bool, true, false, not, ◌&&◌, ◌==◌, eqb, List, [], ◌∷◌, ◌++◌, length, map, Some, None, refl, sym, ap, ◌∙◌, subst, arith, if◌then◌else◌}
 use Rattle.std.proofs.lemmas.Bool.{false≢true}
 use Rattle.std.proofs.lemmas.List.{length_push}
 use Rattle.un_facts.proofs.Copies.{copies_last}
@@ -14,17 +14,17 @@ use Rattle.un_endpoint.specs.EndOutcomes.{IsLent, Steps, LeavesHome}
 use Rattle.un_endpoint.specs.Ends.{Transmitter, Receiver, Opened as Current, opened_number}
 use Rattle.un_journal.specs.declared.lines.Line.{Line}
 use Rattle.un_journal.specs.declared.lines.Line.TheVariants.{Gave, Posted, Cleared}
-use Rattle.un_journal.specs.LaneSteps.{Writes}
-use Rattle.un_journal.specs.History.{History, made, opened, current, serial_of as owner_of, first, span, made_bytes, left_of, row_from}
+use Rattle.un_journal.specs.declared.actions.Answer.{Answer}
+use Rattle.un_journal.specs.LaneSteps.{Writes, Answers, bare, clear_set, deliver_next, post}
+use Rattle.un_journal.specs.Lookup.{rx_home}
+use Rattle.un_journal.specs.History.{History, posts, recalls, flights, made, opened, current, serial_of as owner_of, first, span, made_bytes, left_of, row_from}
 use Rattle.un_journal.specs.Sound.{IsNextNumber}
-use Rattle.un_journal.proofs.Lists.{those_first}
-use Rattle.un_journal.proofs.Legal.{owns_span, next_number_from}
-use Rattle.un_journal.proofs.Delivery.{left_here, delivered_more, current_none, current_stays}
+use Rattle.un_journal.proofs.ForLane.{those_first, owns_span, next_number_from, left_here, delivered_more, current_none, current_stays}
 use Rattle.un_lane.specs.Way.{Way}
-use Rattle.un_journal.specs.LaneSteps.{deliver_next}
-use Rattle.un_lane.specs.Stands.{Stands, ArePlaced, IsRx, IsText, IsLeft, CurrentIs, opened_serial, flight_rx}
+use Rattle.un_lane.specs.Stands.{Stands, ArePlaced, IsRx, IsText, IsLeft, CurrentIs, opened_serial}
 use Rattle.un_lane.proofs.Contents.{datagram_least}
-use Rattle.un_lane.proofs.Counting.{copies_more}
+use Rattle.un_lane.proofs.Counting.{copies_more, not_zero}
+use Rattle.un_lane.proofs.Placing.{rx_moved}
 
 -- what is left of the current request
 row_step : (n to' : ℕ) → n < to' → row_from n (to' - n) ≡ n ∷ row_from (n + 1) (to' - (n + 1))
@@ -75,66 +75,24 @@ lent_some way g n bytes w lent =
 -- the current request goes home
 finish_placed : (lane : Lane) (t : Transmitter) (r : Receiver) (bus : Bus) (o : Current) → ArePlaced lane t r bus → r.current ≡ Some o
     → ArePlaced lane t (record r { current = None; home = r.home ++ o.request.number ∷ [] }) bus
-finish_placed lane t r bus o p e = record {
-  side = p.side;
-  one_params = p.one_params;
-  no_deferred = p.no_deferred;
-  tx_size_is = p.tx_size_is;
-  rx_size_is = p.rx_size_is;
-  tx_room_is = p.tx_room_is;
-  rx_room_is = p.rx_room_is;
-  largest_is = p.largest_is;
-  wide = p.wide;
-  tx_once = p.tx_once;
-  tx_some = p.tx_some;
-  rx_once = λ n.
+finish_placed lane t r bus o p e = assumption (
+  p,
+  rx_moved p (record r { current = None; home = r.home ++ o.request.number ∷ [] }) bus refl
+      (λ n.
       let h : copies n (r.home ++ o.request.number ∷ []) ≡ copies n r.home + one_if (eqb n o.request.number) = copies_last n r.home o.request.number in
-      let c : copies n (opened_number r.current) ≡ one_if (eqb n o.request.number) + 0 = ap (λ x. copies n (opened_number x)) e in
-      let w : copies n r.home + copies n (map number_of r.arrived) + copies n (opened_number r.current) + (copies n (map number_of bus.posted) + copies n (flight_rx bus.flight)) ≤ 1 = p.rx_once n in omega arith;
-  rx_some = λ n low.
-      let h : copies n (r.home ++ o.request.number ∷ []) ≡ copies n r.home + one_if (eqb n o.request.number) = copies_last n r.home o.request.number in
-      let c : copies n (opened_number r.current) ≡ one_if (eqb n o.request.number) + 0 = ap (λ x. copies n (opened_number x)) e in
-      let w : 1 ≤ copies n r.home + copies n (map number_of r.arrived) + copies n (opened_number r.current) + (copies n (map number_of bus.posted) + copies n (flight_rx bus.flight)) = p.rx_some n low in omega arith;
-  tx_all = p.tx_all;
-  rx_all =
-      let h : length (r.home ++ o.request.number ∷ []) ≡ length r.home + 1 = length_push r.home o.request.number in
-      let c : length (opened_number r.current) ≡ 1 = ap (λ x. length (opened_number x)) e in
-      let w : length r.home + length r.arrived + length (opened_number r.current) + length bus.posted + length (flight_rx bus.flight) ≡ r.size = p.rx_all in omega arith;
-  deferred_are = p.deferred_are;
-  queued_are = p.queued_are;
-  posted_are = p.posted_are;
-  flight_is = p.flight_is;
-}
+      let c : copies n (opened_number r.current) ≡ one_if (eqb n o.request.number) + 0 = ap (λ x. copies n (opened_number x)) e in omega arith)
+      (let h : length (r.home ++ o.request.number ∷ []) ≡ length r.home + 1 = length_push r.home o.request.number in
+      let c : length (opened_number r.current) ≡ 1 = ap (λ x. length (opened_number x)) e in omega arith),
+)
 
 step_placed : (lane : Lane) (t : Transmitter) (r : Receiver) (bus : Bus) (o : Current) → ArePlaced lane t r bus → r.current ≡ Some o
     → ArePlaced lane t (record r { current = Some (record o { next = o.next + 1 }) }) bus
-step_placed lane t r bus o p e = record {
-  side = p.side;
-  one_params = p.one_params;
-  no_deferred = p.no_deferred;
-  tx_size_is = p.tx_size_is;
-  rx_size_is = p.rx_size_is;
-  tx_room_is = p.tx_room_is;
-  rx_room_is = p.rx_room_is;
-  largest_is = p.largest_is;
-  wide = p.wide;
-  tx_once = p.tx_once;
-  tx_some = p.tx_some;
-  rx_once = λ n.
-      let c : copies n (opened_number r.current) ≡ one_if (eqb n o.request.number) + 0 = ap (λ x. copies n (opened_number x)) e in
-      let w : copies n r.home + copies n (map number_of r.arrived) + copies n (opened_number r.current) + (copies n (map number_of bus.posted) + copies n (flight_rx bus.flight)) ≤ 1 = p.rx_once n in omega arith;
-  rx_some = λ n low.
-      let c : copies n (opened_number r.current) ≡ one_if (eqb n o.request.number) + 0 = ap (λ x. copies n (opened_number x)) e in
-      let w : 1 ≤ copies n r.home + copies n (map number_of r.arrived) + copies n (opened_number r.current) + (copies n (map number_of bus.posted) + copies n (flight_rx bus.flight)) = p.rx_some n low in omega arith;
-  tx_all = p.tx_all;
-  rx_all =
-      let c : length (opened_number r.current) ≡ 1 = ap (λ x. length (opened_number x)) e in
-      let w : length r.home + length r.arrived + length (opened_number r.current) + length bus.posted + length (flight_rx bus.flight) ≡ r.size = p.rx_all in omega arith;
-  deferred_are = p.deferred_are;
-  queued_are = p.queued_are;
-  posted_are = p.posted_are;
-  flight_is = p.flight_is;
-}
+step_placed lane t r bus o p e = assumption (
+  p,
+  rx_moved p (record r { current = Some (record o { next = o.next + 1 }) }) bus refl
+      (λ n. let c : copies n (opened_number r.current) ≡ one_if (eqb n o.request.number) + 0 = ap (λ x. copies n (opened_number x)) e in omega arith)
+      (let c : length (opened_number r.current) ≡ 1 = ap (λ x. length (opened_number x)) e in omega arith),
+)
 
 some_same : (a b : Current) → Some a ≡ Some b → a ≡ b
 some_same a b e = cc
@@ -214,15 +172,7 @@ module _ (way : Way) (g : History) (o : Current) (bytes : List ℕ) (w : Stands 
           rx = let l : length (way.rx.home ++ o.request.number ∷ []) ≡ length way.rx.home + 1 = length_push way.rx.home o.request.number in
               let s = w.counts.rx in omega (arith, s);
         });
-        texts = record {
-          deferred_texts = w.texts.deferred_texts;
-          queued_texts = w.texts.queued_texts;
-          arrived_texts = w.texts.arrived_texts;
-          current_text = tt;
-          flight_span = w.texts.flight_span;
-          some = w.texts.some;
-          whole = w.texts.whole;
-        };
+        texts = assumption w.texts;
       }
 
 pub deliver_stands : (way : Way) (g : History) (n : ℕ) (bytes : List ℕ) (r : Receiver) (b : Bool) → Stands way g → IsLent way.rx n bytes → Steps way.rx r b
@@ -238,55 +188,36 @@ deliver_stands way g n bytes r true w lent s =
 
 post_placed : (lane : Lane) (t : Transmitter) (r : Receiver) (bus : Bus) (x : Buffer) (home' : List ℕ) → ArePlaced lane t r bus → r.home ≡ home' ++ x.number ∷ [] → x.number < r.size → x.capacity ≡ r.capacity
     → ArePlaced lane t (record r { home = home' }) (record bus { posted = bus.posted ++ x ∷ [] })
-post_placed lane t r bus x home' p q known sized = record {
-  side = p.side;
-  one_params = p.one_params;
-  no_deferred = p.no_deferred;
-  tx_size_is = p.tx_size_is;
-  rx_size_is = p.rx_size_is;
-  tx_room_is = p.tx_room_is;
-  rx_room_is = p.rx_room_is;
-  largest_is = p.largest_is;
-  wide = p.wide;
-  tx_once = p.tx_once;
-  tx_some = p.tx_some;
-  rx_once = λ n.
+post_placed lane t r bus x home' p q known sized = assumption (
+  p,
+  rx_moved p (record r { home = home' }) (record bus { posted = bus.posted ++ x ∷ [] }) refl
+      (λ n.
       let h : copies n r.home ≡ copies n home' + one_if (eqb n x.number) = ap (copies n) q ∙ copies_last n home' x.number in
-      let o : copies n (map number_of (bus.posted ++ x ∷ [])) ≡ copies n (map number_of bus.posted) + one_if (eqb n x.number) = copies_more n bus.posted x in
-      let w : copies n r.home + copies n (map number_of r.arrived) + copies n (opened_number r.current) + (copies n (map number_of bus.posted) + copies n (flight_rx bus.flight)) ≤ 1 = p.rx_once n in omega arith;
-  rx_some = λ n low.
-      let h : copies n r.home ≡ copies n home' + one_if (eqb n x.number) = ap (copies n) q ∙ copies_last n home' x.number in
-      let o : copies n (map number_of (bus.posted ++ x ∷ [])) ≡ copies n (map number_of bus.posted) + one_if (eqb n x.number) = copies_more n bus.posted x in
-      let w : 1 ≤ copies n r.home + copies n (map number_of r.arrived) + copies n (opened_number r.current) + (copies n (map number_of bus.posted) + copies n (flight_rx bus.flight)) = p.rx_some n low in omega arith;
-  tx_all = p.tx_all;
-  rx_all =
-      let h : length r.home ≡ length home' + 1 = ap length q ∙ length_push home' x.number in
-      let o : length (bus.posted ++ x ∷ []) ≡ length bus.posted + 1 = length_push bus.posted x in
-      let w : length r.home + length r.arrived + length (opened_number r.current) + length bus.posted + length (flight_rx bus.flight) ≡ r.size = p.rx_all in omega arith;
-  deferred_are = p.deferred_are;
-  queued_are = p.queued_are;
-  posted_are = all_more (IsRx r.size r.capacity) bus.posted x p.posted_are (record { known = known; sized = sized });
-  flight_is = p.flight_is;
-}
+      let o : copies n (map number_of (bus.posted ++ x ∷ [])) ≡ copies n (map number_of bus.posted) + one_if (eqb n x.number) = copies_more n bus.posted x in omega arith)
+      (let h : length r.home ≡ length home' + 1 = ap length q ∙ length_push home' x.number in
+      let o : length (bus.posted ++ x ∷ []) ≡ length bus.posted + 1 = length_push bus.posted x in omega arith),
+  all_more (IsRx r.size r.capacity) bus.posted x p.posted_are (record { known = known; sized = sized }),
+)
+
+pub post_is : (way : Way) (g : History) → Stands way g → post way.tx.params way.lane g ≡ (if length way.rx.home == 0 then Answers Answer.Nothing else Writes (bare (Posted way.lane) ∷ []))
+post_is way g w =
+    let home : rx_home way.tx.params way.lane g ≡ length way.rx.home = let s = w.counts.rx in omega (arith, s) in
+    ap (λ n. if n == 0 then Answers Answer.Nothing else Writes (bare (Posted way.lane) ∷ [])) home
+
+pub post_writes : (way : Way) (g : History) (r : Receiver) (x : Buffer) → Stands way g → LeavesHome way.rx r x → post way.tx.params way.lane g ≡ Writes (bare (Posted way.lane) ∷ [])
+post_writes way g r x w l =
+    let more : length way.rx.home ≡ length r.home + 1 = ap length l.left ∙ length_push r.home x.number in
+    post_is way g w ∙ ap (λ b. if b then Answers Answer.Nothing else Writes (bare (Posted way.lane) ∷ [])) (not_zero (length way.rx.home) (omega arith))
 
 pub post_stands : (way : Way) (g : History) (r : Receiver) (bus' : Bus) (x : Buffer) → Stands way g → LeavesHome way.rx r x → bus' ≡ record way.bus { posted = way.bus.posted ++ x ∷ [] }
     → Stands (record way { rx = r; bus = bus' }) ((Posted way.lane, []) ∷ g)
 post_stands way g r bus' x w l b =
+    let posted : recalls g + flights g + length (way.bus.posted ++ x ∷ []) ≡ posts g + 1 = let o : length (way.bus.posted ++ x ∷ []) ≡ length way.bus.posted + 1 = length_push way.bus.posted x in let s = w.queues.posted in omega (arith, s) in
     let stands : Stands (record way { rx = record way.rx { home = r.home }; bus = record way.bus { posted = way.bus.posted ++ x ∷ [] } }) ((Posted way.lane, []) ∷ g) = record {
       sound = (tt, w.sound);
       placed = post_placed way.lane way.tx way.rx way.bus x r.home w.placed l.left l.known (ap (λ y. y.capacity) l.empty);
       building = w.building;
-      queues = record {
-        wait = w.queues.wait;
-        fly = w.queues.fly;
-        marked = w.queues.marked;
-        unmarked = w.queues.unmarked;
-        unmade = w.queues.unmade;
-        flight_marked = w.queues.flight_marked;
-        halts = w.queues.halts;
-        posted = let o : length (way.bus.posted ++ x ∷ []) ≡ length way.bus.posted + 1 = length_push way.bus.posted x in let s = w.queues.posted in omega (arith, s);
-        grounded = w.queues.grounded;
-      };
+      queues = assumption (w.queues, posted);
       ends = w.ends;
       counts = record {
         tx = w.counts.tx;
@@ -298,43 +229,8 @@ post_stands way g r bus' x w l b =
 
 -- CLEARING
 
+pub clear_is : (way : Way) (g : History) (b : Bool) → Stands way g → way.bus.halted ≡ b → clear_set way.lane g ≡ (if b then Writes (bare (Cleared way.lane) ∷ []) else Answers Answer.Nothing)
+clear_is way g b w e = ap (λ b. if b then Writes (bare (Cleared way.lane) ∷ []) else Answers Answer.Nothing) (w.queues.halts ∙ e)
+
 pub clear_stands : (way : Way) (g : History) → Stands way g → Stands (record way { bus = record way.bus { halted = false } }) ((Cleared way.lane, []) ∷ g)
-clear_stands way g w = record {
-  sound = (tt, w.sound);
-  placed = record {
-    side = w.placed.side;
-    one_params = w.placed.one_params;
-    no_deferred = w.placed.no_deferred;
-    tx_size_is = w.placed.tx_size_is;
-    rx_size_is = w.placed.rx_size_is;
-    tx_room_is = w.placed.tx_room_is;
-    rx_room_is = w.placed.rx_room_is;
-    largest_is = w.placed.largest_is;
-    wide = w.placed.wide;
-    tx_once = w.placed.tx_once;
-    tx_some = w.placed.tx_some;
-    rx_once = w.placed.rx_once;
-    rx_some = w.placed.rx_some;
-    tx_all = w.placed.tx_all;
-    rx_all = w.placed.rx_all;
-    deferred_are = w.placed.deferred_are;
-    queued_are = w.placed.queued_are;
-    posted_are = w.placed.posted_are;
-    flight_is = w.placed.flight_is;
-  };
-  building = w.building;
-  queues = record {
-    wait = w.queues.wait;
-    fly = w.queues.fly;
-    marked = w.queues.marked;
-    unmarked = w.queues.unmarked;
-    unmade = w.queues.unmade;
-    flight_marked = w.queues.flight_marked;
-    halts = refl;
-    posted = w.queues.posted;
-    grounded = w.queues.grounded;
-  };
-  ends = w.ends;
-  counts = w.counts;
-  texts = w.texts;
-}
+clear_stands way g w = assumption

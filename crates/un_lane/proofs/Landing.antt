@@ -1,5 +1,5 @@
 -- A path whose flight has ended stands for the lane with one line more.
-use Rattle.std.proofs.Common.{◌≡◌, ℕ, zero, suc, ◌+◌, ◌-◌, ◌<◌, ◌≤◌, Bool, true, false, not, ◌&&◌, ◌||◌, ◌==◌, eqb, List, [], ◌∷◌, ◌++◌, length, map, Option, Some, None, option_to_list, inl, inr, refl, sym, ap, ◌∙◌, subst, arith, filter}
+use Rattle.std.proofs.Common.{◌≡◌, ℕ, zero, suc, ◌+◌, ◌-◌, ◌<◌, ◌≤◌, Bool, true, false, not, ◌&&◌, ◌||◌, ◌==◌, eqb, List, [], ◌∷◌, ◌++◌, length, map, Option, Some, None, inl, inr, refl, sym, ap, ◌∙◌, subst, arith, filter}
 use Rattle.std.proofs.lemmas.Bool.{false≢true, cases_lt, cases_eq, cases_Bool}
 use Rattle.std.proofs.lemmas.List.{length_push}
 use Rattle.un_facts.proofs.Copies.{copies_last}
@@ -14,20 +14,16 @@ use Rattle.un_req.specs.Request.{Buffer, number_of}
 use Rattle.un_endpoint.specs.declared.record.FlightRecord.{FlightRecord}
 use Rattle.un_endpoint.specs.Bus.{Bus, Trip, record_of, received}
 use Rattle.un_endpoint.specs.Outcomes.{Arrives, Fails, IsSevered, halts}
-use Rattle.un_endpoint.specs.Ends.{Transmitter, Receiver, opened_number}
+use Rattle.un_endpoint.specs.Ends.{Transmitter, Receiver}
 use Rattle.un_journal.specs.declared.lines.Line.TheVariants.{Landed, Failed, Cut}
 use Rattle.un_journal.specs.History.{History, made, those, flies, waits, waiting, flying, ended, landed, failed, was_cut, opened, arrived, delivered, gave, serial_of as owner_of, mark, halted, posts, recalls, flights, first, span, made_bytes, left_of, row_from, ends}
 use Rattle.un_journal.specs.Sound.{IsSound}
-use Rattle.un_journal.proofs.Lists.{those_first}
-use Rattle.un_journal.proofs.Legal.{quiet_grounded, fresh, owns_span, left_is}
-use Rattle.un_journal.proofs.Numbers.{given_from}
-use Rattle.un_journal.proofs.Status.{NoneEnded, aloft_only, status, status_of}
-use Rattle.un_journal.proofs.Given.{in_turn, top_below, top, landed_below}
-use Rattle.un_journal.proofs.Order.{in_order, flight_is}
+use Rattle.un_journal.proofs.ForLane.{those_first, quiet_grounded, fresh, owns_span, left_is, given_from, NoneEnded, aloft_only, status, status_of, in_turn, top_below, top, landed_below, in_order, flight_is}
 use Rattle.un_lane.specs.Way.{Way}
 use Rattle.un_lane.specs.Stands.{Stands, ArePlaced, AreQueued, IsText, FlightIs, finished, serial_of, flight_serial, flight_tx, flight_rx}
 use Rattle.un_lane.proofs.Counting.{copies_more, map_last}
 use Rattle.un_lane.proofs.Finishing.{finish_plus}
+use Rattle.un_lane.proofs.Placing.{tx_moved, rx_moved}
 use Rattle.un_lane.proofs.Serials.{those_same, those_plus, those_nothing, apart, same_number}
 
 -- PLACES: the transmit request is done; the receive request has arrived, or is home
@@ -36,45 +32,21 @@ land_placed : (lane : Lane) (t : Transmitter) (r : Receiver) (bus : Bus) (trip :
     → ((n : ℕ) → copies n home' + copies n (map number_of arrived') ≡ copies n r.home + copies n (map number_of r.arrived) + one_if (eqb n trip.rx))
     → length home' + length arrived' ≡ length r.home + length r.arrived + 1
     → ArePlaced lane (record t { done = t.done ++ trip.tx ∷ [] }) (record r { home = home'; arrived = arrived' }) (record bus { flight = None; flight_mark = None; halted = h })
-land_placed lane t r bus trip home' arrived' h p out numbers total = record {
-  side = p.side;
-  one_params = p.one_params;
-  no_deferred = p.no_deferred;
-  tx_size_is = p.tx_size_is;
-  rx_size_is = p.rx_size_is;
-  tx_room_is = p.tx_room_is;
-  rx_room_is = p.rx_room_is;
-  largest_is = p.largest_is;
-  wide = p.wide;
-  tx_once = λ n.
+land_placed lane t r bus trip home' arrived' h p out numbers total = assumption (
+  p,
+  tx_moved p (record t { done = t.done ++ trip.tx ∷ [] }) (record bus { flight = None; flight_mark = None; halted = h }) refl
+      (λ n.
       let f : copies n (flight_tx bus.flight) ≡ one_if (eqb n trip.tx.number) + 0 = ap (λ x. copies n (flight_tx x)) out in
-      let d : copies n (map number_of (t.done ++ trip.tx ∷ [])) ≡ copies n (map number_of t.done) + one_if (eqb n trip.tx.number) = copies_more n t.done trip.tx in
-      let w : copies n t.home + copies n (option_to_list t.builder.claim) + copies n (map number_of t.deferred) + copies n (map number_of t.done) + (copies n (map number_of bus.queue) + copies n (flight_tx bus.flight)) ≤ 1 = p.tx_once n in omega arith;
-  tx_some = λ n low.
-      let f : copies n (flight_tx bus.flight) ≡ one_if (eqb n trip.tx.number) + 0 = ap (λ x. copies n (flight_tx x)) out in
-      let d : copies n (map number_of (t.done ++ trip.tx ∷ [])) ≡ copies n (map number_of t.done) + one_if (eqb n trip.tx.number) = copies_more n t.done trip.tx in
-      let w : 1 ≤ copies n t.home + copies n (option_to_list t.builder.claim) + copies n (map number_of t.deferred) + copies n (map number_of t.done) + (copies n (map number_of bus.queue) + copies n (flight_tx bus.flight)) = p.tx_some n low in omega arith;
-  rx_once = λ n.
+      let d : copies n (map number_of (t.done ++ trip.tx ∷ [])) ≡ copies n (map number_of t.done) + one_if (eqb n trip.tx.number) = copies_more n t.done trip.tx in omega arith)
+      (let f : length (flight_tx bus.flight) ≡ 1 = ap (λ x. length (flight_tx x)) out in
+      let d : length (t.done ++ trip.tx ∷ []) ≡ length t.done + 1 = length_push t.done trip.tx in omega arith),
+  rx_moved p (record r { home = home'; arrived = arrived' }) (record bus { flight = None; flight_mark = None; halted = h }) refl
+      (λ n.
       let f : copies n (flight_rx bus.flight) ≡ one_if (eqb n trip.rx) + 0 = ap (λ x. copies n (flight_rx x)) out in
-      let s : copies n home' + copies n (map number_of arrived') ≡ copies n r.home + copies n (map number_of r.arrived) + one_if (eqb n trip.rx) = numbers n in
-      let w : copies n r.home + copies n (map number_of r.arrived) + copies n (opened_number r.current) + (copies n (map number_of bus.posted) + copies n (flight_rx bus.flight)) ≤ 1 = p.rx_once n in omega arith;
-  rx_some = λ n low.
-      let f : copies n (flight_rx bus.flight) ≡ one_if (eqb n trip.rx) + 0 = ap (λ x. copies n (flight_rx x)) out in
-      let s : copies n home' + copies n (map number_of arrived') ≡ copies n r.home + copies n (map number_of r.arrived) + one_if (eqb n trip.rx) = numbers n in
-      let w : 1 ≤ copies n r.home + copies n (map number_of r.arrived) + copies n (opened_number r.current) + (copies n (map number_of bus.posted) + copies n (flight_rx bus.flight)) = p.rx_some n low in omega arith;
-  tx_all =
-      let f : length (flight_tx bus.flight) ≡ 1 = ap (λ x. length (flight_tx x)) out in
-      let d : length (t.done ++ trip.tx ∷ []) ≡ length t.done + 1 = length_push t.done trip.tx in
-      let w : length t.home + length (option_to_list t.builder.claim) + length t.deferred + length t.done + length bus.queue + length (flight_tx bus.flight) ≡ t.size = p.tx_all in omega arith;
-  rx_all =
-      let f : length (flight_rx bus.flight) ≡ 1 = ap (λ x. length (flight_rx x)) out in
-      let w : length r.home + length r.arrived + length (opened_number r.current) + length bus.posted + length (flight_rx bus.flight) ≡ r.size = p.rx_all in
-      let s : length home' + length arrived' ≡ length r.home + length r.arrived + 1 = total in omega arith;
-  deferred_are = p.deferred_are;
-  queued_are = p.queued_are;
-  posted_are = p.posted_are;
-  flight_is = tt;
-}
+      let s : copies n home' + copies n (map number_of arrived') ≡ copies n r.home + copies n (map number_of r.arrived) + one_if (eqb n trip.rx) = numbers n in omega arith)
+      (let f : length (flight_rx bus.flight) ≡ 1 = ap (λ x. length (flight_rx x)) out in
+      let s : length home' + length arrived' ≡ length r.home + length r.arrived + 1 = total in omega arith),
+)
 
 numbers_home : (r : Receiver) (trip : Trip) (n : ℕ) → copies n (r.home ++ trip.rx ∷ []) + copies n (map number_of r.arrived) ≡ copies n r.home + copies n (map number_of r.arrived) + one_if (eqb n trip.rx)
 numbers_home r trip n = let e : copies n (r.home ++ trip.rx ∷ []) ≡ copies n r.home + one_if (eqb n trip.rx) = copies_last n r.home trip.rx in omega arith
@@ -232,15 +204,7 @@ arrive_stands way g bus' trip fault tx rx w out bytes a =
         left_is = w.ends.left_is;
       };
       counts = rw (landed_delivered way.lane trip.tx.serial g w.sound up some) w.counts;
-      texts = record {
-        deferred_texts = w.texts.deferred_texts;
-        queued_texts = w.texts.queued_texts;
-        arrived_texts = all_more (IsText (span g) (made_bytes g)) way.rx.arrived (received trip) w.texts.arrived_texts (record { span_is = text; bytes_are = bytes });
-        current_text = w.texts.current_text;
-        flight_span = tt;
-        some = w.texts.some;
-        whole = w.texts.whole;
-      };
+      texts = assumption (w.texts, all_more (IsText (span g) (made_bytes g)) way.rx.arrived (received trip) w.texts.arrived_texts (record { span_is = text; bytes_are = bytes }));
     })
 
 pub fail_stands : (way : Way) (g : History) (bus' : Bus) (trip : Trip) (fault : Option FaultKind) (tx rx : Buffer) (kind : FaultKind) → Stands way g → way.bus.flight ≡ Some (record_of trip)
@@ -266,15 +230,7 @@ fail_stands way g bus' trip fault tx rx kind w out a =
         rx = let e : length (way.rx.home ++ trip.rx ∷ []) ≡ length way.rx.home + 1 = length_push way.rx.home trip.rx in
             let s = w.counts.rx in omega (arith, s);
       };
-      texts = record {
-        deferred_texts = w.texts.deferred_texts;
-        queued_texts = w.texts.queued_texts;
-        arrived_texts = w.texts.arrived_texts;
-        current_text = w.texts.current_text;
-        flight_span = tt;
-        some = w.texts.some;
-        whole = w.texts.whole;
-      };
+      texts = assumption w.texts;
     })
 
 pub sever_stands : (way : Way) (g : History) (bus' : Bus) (trip : Trip) (tx rx : Buffer) (c : ℕ) → Stands way g → way.bus.flight ≡ Some (record_of trip)
@@ -299,13 +255,5 @@ sever_stands way g bus' trip tx rx c w out a =
         rx = let e : length (way.rx.home ++ trip.rx ∷ []) ≡ length way.rx.home + 1 = length_push way.rx.home trip.rx in
             let s = w.counts.rx in omega (arith, s);
       });
-      texts = record {
-        deferred_texts = w.texts.deferred_texts;
-        queued_texts = w.texts.queued_texts;
-        arrived_texts = w.texts.arrived_texts;
-        current_text = w.texts.current_text;
-        flight_span = tt;
-        some = w.texts.some;
-        whole = w.texts.whole;
-      };
+      texts = assumption w.texts;
     })

@@ -1,6 +1,8 @@
 pub mod Adding
+mod Doing
 mod Contents
 mod Counting
+mod Placing
 mod Serials
 mod Finishing
 mod Taking
@@ -11,9 +13,11 @@ pub mod Making
 mod Offering
 mod Sending
 mod Closing
+mod Building
 mod Starting
 mod Marking
 mod Recalling
+mod Stopping
 mod Cutting
 mod Dropping
 mod Looping

@@ -13,8 +13,7 @@ use Rattle.un_journal.specs.History.{History, past, taken, cover, flying, posted
 use Rattle.un_journal.specs.Lookup.{phase_of, controls_done, feed_head, datagrams, built_frames, deferred, unmarked, is_asleep, is_stopping}
 use Rattle.un_journal.specs.LaneSteps.{Writes, bare, take_queued, take_with, land_fault, land_with, unlink_first}
 use Rattle.un_journal.specs.Step.{take_flight, land_flight, land_from, unlink, marked_each, cut_each, recalled_each}
-use Rattle.un_journal.proofs.Formed.{count_datagrams}
-use Rattle.un_journal.proofs.LinkFacts.{lane_still}
+use Rattle.un_journal.proofs.ForLane.{count_datagrams, lane_still}
 use Rattle.un_lane.specs.Way.{Way}
 use Rattle.un_lane.specs.Phases.{Agrees, IsDropped, defers}
 use Rattle.un_lane.specs.Controls.{unmarked_in, unmarked_lines, deferred_lines, posted_lines, resumed}

@@ -10,12 +10,11 @@ use Rattle.un_endpoint.specs.declared.record.FlightRecord.{FlightRecord}
 use Rattle.un_journal.specs.History.{History, made, those, flies, waits, waiting, ended, mark, ends}
 use Rattle.un_journal.specs.Lookup.{deferred, queued, unmarked, is_deferring, is_asleep}
 use Rattle.un_journal.specs.Sound.{IsSound}
-use Rattle.un_journal.proofs.Order.{in_order, flight_is}
+use Rattle.un_journal.proofs.ForLane.{in_order, flight_is, ended_is}
 use Rattle.un_lane.specs.Way.{Way}
 use Rattle.un_lane.specs.Phases.{Agrees, defers}
 use Rattle.un_lane.specs.Controls.{unmarked_flight, unmarked_in}
 use Rattle.un_lane.specs.Stands.{Stands, AreMarked, FlightIs, serial_of, flight_serial}
-use Rattle.un_journal.proofs.Homes.{ended_is}
 use Rattle.un_lane.proofs.Serials.{those_same}
 
 -- DEFERRED AND QUEUED

@@ -1,12 +1,15 @@
 -- Calls that write one line after the other until none is left.
-use Rattle.std.proofs.Common.{◌≡◌, suc, ◌<◌, [], ◌∷◌, ◌++◌, length, refl, sym, ap, ◌∙◌, subst, arith, append-nil, append_assoc}
+use Rattle.std.proofs.Common.{◌≡◌, suc, ◌<◌, [], ◌∷◌, ◌++◌, take, length, refl, sym, ap, ◌∙◌, subst, arith, append-nil, append_assoc}
+use Rattle.un_endpoint.specs.Bus.{Bus}
+use Rattle.un_endpoint.specs.Ends.{Transmitter, Receiver}
 use Rattle.un_journal.specs.History.{History}
 use Rattle.un_journal.specs.Log.{Log}
 use Rattle.un_lane.specs.Way.{Way, HasRoom, Adds, lane_lines}
+use Rattle.un_lane.specs.Calls.{Ready}
 use Rattle.un_lane.specs.Phases.{Leaves}
 use Rattle.un_lane.specs.Stands.{Stands}
 use Rattle.un_lane.specs.Controls.{WritesFirst, WritesNone, LeavesBus, Stays}
-use Rattle.un_lane.proofs.Adding.{adds_none, adds_more, room_rest}
+use Rattle.un_lane.proofs.Adding.{adds_none, adds_more, room_front, room_rest}
 
 -- some of the lines that were left are written
 pub record WritesSome (left : Way → History) (keeps : Way → Way → Type 0) (old new : Way) (log log' : Log) : Type 0 where
@@ -29,8 +32,16 @@ some_more left keeps old mid new log log' log'' trans a b = record {
   kept = trans a.kept b.kept;
 }
 
-pub some_room : (left : Way → History) (keeps : Way → Way → Type 0) (old new : Way) (log log' : Log) → HasRoom log (left old) → WritesSome left keeps old new log log' → HasRoom log' (left new)
-some_room left keeps old new log log' r a = room_rest log log' a.front (left new) (subst (HasRoom log) a.split r) a.adds
+-- the next line may be written
+pub some_ready : (left : Way → History) (keeps : Way → Way → Type 0) (old new : Way) (log log' : Log) → HasRoom log (left old) → WritesSome left keeps old new log log' → Ready (take 1 (left new)) new log'
+some_ready left keeps old new log log' r a = record {
+  stands = a.stands;
+  room = next (left new) (room_rest log log' a.front (left new) (subst (HasRoom log) a.split r) a.adds);
+}
+  where
+    next : (xs : History) → HasRoom log' xs → HasRoom log' (take 1 xs)
+    next [] h = h
+    next (x ∷ xs) h = room_front log' (x ∷ []) xs h
 
 -- every line is written
 pub record WritesAll (keeps : Way → Way → Type 0) (old new : Way) (log log' : Log) (lines : History) : Type 0 where
@@ -51,6 +62,15 @@ first_less left keeps old new log log' a = let l : length (left old) ≡ suc (le
 
 pub leaves_same : (way : Way) → Leaves way way
 leaves_same way = record { lane_is = refl; params_are = refl; frames_are = refl; agrees = λ asleep a. a }
+
+-- a call that changes what is at home, done, arrived, current, posted or halted
+pub leaves_rest : (way : Way) (t : Transmitter) (r : Receiver) (bus : Bus) → t ≡ record way.tx { home = t.home; done = t.done } → bus.queue ≡ way.bus.queue → bus.flight ≡ way.bus.flight → Leaves way (record way { tx = t; rx = r; bus = bus })
+leaves_rest way t r bus e q f = record {
+  lane_is = refl;
+  params_are = ap (λ (u : Transmitter). u.params) e;
+  frames_are = ap (λ (u : Transmitter). u.builder.frames) e;
+  agrees = λ asleep a. record { none_queued = λ d. let n = a.none_queued d in (q ∙ n.0, f ∙ n.1); none_deferred = λ d. ap (λ (u : Transmitter). u.deferred) e ∙ a.none_deferred d };
+}
 
 pub leaves_more : (a b c : Way) → Leaves a b → Leaves b c → Leaves a c
 leaves_more a b c x y = record {

@@ -13,10 +13,7 @@ use Rattle.un_endpoint.specs.Ends.{Opened as Current}
 use Rattle.un_journal.specs.declared.lines.Line.TheVariants.{Made}
 use Rattle.un_journal.specs.History.{History, made, those, flies, waits, waiting, flying, ended, landed, failed, was_cut, opened, arrived, current, delivered, mark, halted, posts, recalls, flights, returned, first, span, made_bytes, left_of, told_if}
 use Rattle.un_journal.specs.Sound.{IsSound}
-use Rattle.un_journal.proofs.Lists.{those_first}
-use Rattle.un_journal.proofs.Status.{Quiet, status, status_of, is_aloft, is_arrived, is_faulted, is_severed}
-use Rattle.un_journal.proofs.Numbers.{opened_landed}
-use Rattle.un_journal.proofs.Legal.{fresh}
+use Rattle.un_journal.proofs.ForLane.{those_first, Quiet, status, status_of, is_aloft, is_arrived, is_faulted, is_severed, opened_landed, fresh}
 use Rattle.un_lane.specs.Stands.{AreQueued, AreAtEnds, AreTexts, AreMarked, IsText, CurrentIs, FlightIs, finished, serial_of}
 use Rattle.un_lane.proofs.Counting.{map_last}
 use Rattle.un_lane.proofs.Serials.{those_same}

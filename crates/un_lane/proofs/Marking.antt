@@ -11,11 +11,9 @@ use Rattle.un_endpoint.specs.declared.record.FlightRecord.{FlightRecord}
 use Rattle.un_endpoint.specs.Bus.{Bus}
 use Rattle.un_endpoint.specs.Outcomes.{MarksNone, Marks}
 use Rattle.un_endpoint.specs.Ends.{Transmitter, Receiver}
-use Rattle.un_journal.specs.declared.lines.Line.{Line}
 use Rattle.un_journal.specs.declared.lines.Line.TheVariants.{Marked}
 use Rattle.un_journal.specs.History.{History, made, those, flies, waits, waiting, flying, mark, halted, posts, recalls, flights, first}
-use Rattle.un_journal.specs.LaneSteps.{Writes, bare, unlink_first}
-use Rattle.un_journal.proofs.Lists.{those_first}
+use Rattle.un_journal.proofs.ForLane.{those_first}
 use Rattle.un_lane.specs.Way.{Way}
 use Rattle.un_lane.specs.Controls.{unmarked_flight, unmarked_in}
 use Rattle.un_lane.specs.Stands.{Stands, ArePlaced, AreQueued, AreMarked, FlightIs, serial_of, flight_serial}
@@ -110,27 +108,7 @@ waits_apart g j k up w e = false≢true (sym (rw up refl) ∙ subst (λ i. waits
 -- PLACES AND QUEUES
 
 pub marked_placed : (lane : Lane) (t : Transmitter) (r : Receiver) (bus : Bus) (ms : List ℕ) (fm : Option ℕ) → ArePlaced lane t r bus → ArePlaced lane t r (record bus { marks = ms; flight_mark = fm })
-marked_placed lane t r bus ms fm p = record {
-  side = p.side;
-  one_params = p.one_params;
-  no_deferred = p.no_deferred;
-  tx_size_is = p.tx_size_is;
-  rx_size_is = p.rx_size_is;
-  tx_room_is = p.tx_room_is;
-  rx_room_is = p.rx_room_is;
-  largest_is = p.largest_is;
-  wide = p.wide;
-  tx_once = p.tx_once;
-  tx_some = p.tx_some;
-  rx_once = p.rx_once;
-  rx_some = p.rx_some;
-  tx_all = p.tx_all;
-  rx_all = p.rx_all;
-  deferred_are = p.deferred_are;
-  queued_are = p.queued_are;
-  posted_are = p.posted_are;
-  flight_is = p.flight_is;
-}
+marked_placed lane t r bus ms fm p = assumption p
 
 -- every deferred and every queued transfer waits
 all_wait : (g : History) (deferred queue : List Buffer) → waiting g ≡ map serial_of deferred ++ map serial_of queue → AllByRecursion (λ j. waits g j ≡ true) (map serial_of deferred ++ map serial_of queue)
@@ -254,6 +232,3 @@ mark_none bus bus' m =
     let a : length bus.marks ≡ length bus.queue = m.all in
     ap (λ ks. ks ++ drop (length bus.marks) (map serial_of bus.queue)) (no_flight bus.flight bus.flight_mark m.no_flight)
     ∙ drop_of_length-le (map serial_of bus.queue) (omega arith)
-
-pub unlink_marks : (lane : Lane) (g : History) (bus bus' : Bus) (c k : ℕ) → Marks bus bus' c (Some k) → unlink_first lane c g (unmarked_in bus) ≡ Writes (bare (Line.Marked lane k c) ∷ [])
-unlink_marks lane g bus bus' c k m = ap (unlink_first lane c g) (mark_first bus bus' c k m)

@@ -17,7 +17,7 @@ use Rattle.un_journal.specs.declared.census.Census.{Census}
 use Rattle.un_journal.specs.Census.{occurrences, numbers_of, built_numbers, in_block, outside_block, left_in, lane_census}
 use Rattle.un_journal.specs.History.{History, taken, cover, took_last, span, made_bytes, left_of, span_numbers, row_from}
 use Rattle.un_journal.specs.Lookup.{block_open, is_asleep}
-use Rattle.un_journal.proofs.Counts.{occurrences_append, occurrences_numbers, occurrences_row}
+use Rattle.un_journal.proofs.ForLane.{occurrences_append, occurrences_numbers, occurrences_row}
 use Rattle.un_lane.specs.Way.{Way}
 use Rattle.un_lane.specs.Phases.{Agrees}
 use Rattle.un_lane.specs.Stands.{Stands, IsText, IsLeft, CurrentIs, FlightIs, claims_when, opened_serial, serial_of, flight_serial}

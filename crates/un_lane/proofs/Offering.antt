@@ -1,5 +1,5 @@
 -- A path that has accepted a frame stands for the lane with its lines.
-use Rattle.std.proofs.Common.{◌≡◌, ℕ, ◌+◌, ◌-◌, ◌<◌, ◌≤◌, min, Bool, true, false, not, ◌&&◌, ◌==◌, eqb, nat_lt, nat_le, List, [], ◌∷◌, ◌++◌, length, map, Option, Some, None, is_some, option_to_list, inl, inr, refl, sym, ap, ◌∙◌, subst, arith, if◌then◌else◌}
+use Rattle.std.proofs.Common.{◌≡◌, ℕ, ◌+◌, ◌-◌, ◌<◌, ◌≤◌, min, Bool, true, false, not, ◌&&◌, ◌==◌, eqb, nat_lt, nat_le, List, [], ◌∷◌, ◌++◌, length, Option, Some, None, is_some, option_to_list, inl, inr, refl, sym, ap, ◌∙◌, subst, arith, if◌then◌else◌}
 use Rattle.std.proofs.lemmas.Bool.{false≢true, cases_lt}
 use Rattle.std.proofs.lemmas.Bool.Decides.{nat_tests}
 use Rattle.std.proofs.lemmas.List.{length_push}
@@ -11,7 +11,7 @@ use Rattle.un_frame.specs.declared.params.Lane.{Lane}
 use Rattle.un_frame.specs.declared.params.Lane.TheVariants.{Outward, Inward}
 use Rattle.un_frame.specs.Lanes.{packs, tx_size}
 use Rattle.un_frame.specs.Cut.{closed_span}
-use Rattle.un_req.specs.Request.{Buffer, number_of}
+use Rattle.un_req.specs.Request.{Buffer}
 use Rattle.un_endpoint.specs.EndOutcomes.{Uses, Claimed, FromHome, Keeps, Makes, IsBusy, with_frame, closing, frame_needs_home, pending_after}
 use Rattle.un_endpoint.specs.Ends.{Transmitter}
 use Rattle.un_journal.specs.declared.lines.Line.{Line}
@@ -21,7 +21,8 @@ use Rattle.un_journal.specs.LaneSteps.{Writes, Answers, bare, accept}
 use Rattle.un_journal.specs.History.{History, taken, made, cover, took_last, waited_after, returned}
 use Rattle.un_journal.specs.Lookup.{tx_home, block_claims, offer_needs_home}
 use Rattle.un_lane.specs.Way.{Way}
-use Rattle.un_lane.specs.Stands.{Stands, claims_when, pends_when, flight_tx}
+use Rattle.un_lane.specs.Stands.{Stands, claims_when, pends_when}
+use Rattle.un_lane.proofs.Placing.{tx_moved}
 
 -- WHAT THE BUILDER AND THE HISTORY SAY OF ONE ANOTHER
 
@@ -63,7 +64,7 @@ needs_is params Outward g claim closed e = ap not (sym e)
 needs_is params Inward g claim closed e = refl
 
 -- a used request is claimed, or there is one at home
-uses_can : (lane : Lane) (old new : Transmitter) (n : ℕ) (closed : Option (ℕ × ℕ)) (is_open : Bool) → is_some old.builder.claim ≡ claims_when lane is_open → Uses old new n
+pub uses_can : (lane : Lane) (old new : Transmitter) (n : ℕ) (closed : Option (ℕ × ℕ)) (is_open : Bool) → is_some old.builder.claim ≡ claims_when lane is_open → Uses old new n
     → (frame_needs_home lane old.builder.claim closed && (length old.home == 0)) ≡ false
 uses_can lane old new n closed is_open c (FromHome none known e) =
     rw (zero_no (length old.home) (let l : length old.home ≡ length new.home + 1 = ap length e ∙ length_push new.home n in omega arith)) (and_no _)
@@ -237,33 +238,12 @@ keep_stands way g t sender frame w k =
     let is_open : (packs way.tx.params.class way.lane && nat_lt 0 (taken g + 1 - cover g) && true) ≡ true = rw (builds, lt_yes 0 (taken g + 1 - cover g) (omega arith)) refl in
     let stands : Stands (record way { accepted = way.accepted + 1; tx = record way.tx { home = t.home; builder = t.builder } }) ((Took way.lane sender, []) ∷ g) = record {
       sound = (tt, w.sound);
-      placed = record {
-        side = w.placed.side;
-        one_params = w.placed.one_params;
-        no_deferred = w.placed.no_deferred;
-        tx_size_is = w.placed.tx_size_is;
-        rx_size_is = w.placed.rx_size_is;
-        tx_room_is = w.placed.tx_room_is;
-        rx_room_is = w.placed.rx_room_is;
-        largest_is = w.placed.largest_is;
-        wide = w.placed.wide;
-        tx_once = λ n.
-            let e : copies n way.tx.home + copies n (option_to_list way.tx.builder.claim) ≡ copies n t.home + copies n (option_to_list t.builder.claim) = both.0 n in
-            let p : copies n way.tx.home + copies n (option_to_list way.tx.builder.claim) + copies n (map number_of way.tx.deferred) + copies n (map number_of way.tx.done) + (copies n (map number_of way.bus.queue) + copies n (flight_tx way.bus.flight)) ≤ 1 = w.placed.tx_once n in omega arith;
-        tx_some = λ n low.
-            let e : copies n way.tx.home + copies n (option_to_list way.tx.builder.claim) ≡ copies n t.home + copies n (option_to_list t.builder.claim) = both.0 n in
-            let p : 1 ≤ copies n way.tx.home + copies n (option_to_list way.tx.builder.claim) + copies n (map number_of way.tx.deferred) + copies n (map number_of way.tx.done) + (copies n (map number_of way.bus.queue) + copies n (flight_tx way.bus.flight)) = w.placed.tx_some n low in omega arith;
-        rx_once = w.placed.rx_once;
-        rx_some = w.placed.rx_some;
-        tx_all =
-            let e : length way.tx.home + length (option_to_list way.tx.builder.claim) ≡ length t.home + length (option_to_list t.builder.claim) = both.1 in
-            let p : length way.tx.home + length (option_to_list way.tx.builder.claim) + length way.tx.deferred + length way.tx.done + length way.bus.queue + length (flight_tx way.bus.flight) ≡ way.tx.size = w.placed.tx_all in omega arith;
-        rx_all = w.placed.rx_all;
-        deferred_are = w.placed.deferred_are;
-        queued_are = w.placed.queued_are;
-        posted_are = w.placed.posted_are;
-        flight_is = w.placed.flight_is;
-      };
+      placed = assumption (
+        w.placed,
+        tx_moved w.placed (record way.tx { home = t.home; builder = t.builder }) way.bus refl
+            (λ n. let e : copies n way.tx.home + copies n (option_to_list way.tx.builder.claim) ≡ copies n t.home + copies n (option_to_list t.builder.claim) = both.0 n in omega arith)
+            (let e : length way.tx.home + length (option_to_list way.tx.builder.claim) ≡ length t.home + length (option_to_list t.builder.claim) = both.1 in omega arith),
+      );
       building = record {
         accepted_is = omega arith;
         made_is = w.building.made_is;

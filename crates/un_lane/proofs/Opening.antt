@@ -1,5 +1,5 @@
 -- A path whose done request came home, or whose first arrived request became current, stands for the lane with one line more.
-use Rattle.std.proofs.Common.{◌≡◌, ℕ, zero, suc, ◌+◌, ◌-◌, ◌<◌, ◌≤◌, Bool, true, false, not, ◌&&◌, ◌||◌, ◌==◌, eqb, List, [], ◌∷◌, ◌++◌, length, map, Option, Some, None, is_some, option_to_list, ◌⊎◌, inl, inr, refl, sym, ap, ◌∙◌, subst, arith, nat_le, filter}
+use Rattle.std.proofs.Common.{◌≡◌, ℕ, zero, suc, ◌+◌, ◌-◌, ◌<◌, ◌≤◌, Bool, true, false, not, ◌&&◌, ◌||◌, ◌==◌, eqb, List, [], ◌∷◌, ◌++◌, length, map, Option, Some, None, is_some, ◌⊎◌, inl, inr, refl, sym, ap, ◌∙◌, subst, arith, nat_le, filter}
 use Rattle.std.proofs.lemmas.Bool.{false≢true, cases_lt, cases_Bool, le-leb, and_parts}
 use Rattle.std.proofs.lemmas.Bool.Decides.{nat_tests}
 use Rattle.std.specs.List.{AllByRecursion}
@@ -17,14 +17,10 @@ use Rattle.un_journal.specs.declared.actions.Answer.{Answer}
 use Rattle.un_journal.specs.LaneSteps.{Writes, Answers, bare, tx_done, rx_done, rx_done_at, open_first}
 use Rattle.un_journal.specs.History.{History, made, those, ended, landed, opened, arrived, current, gave, serial_of as owner_of, returned, first, span, made_bytes, left_of, row_from, ends}
 use Rattle.un_journal.specs.Sound.{IsSound}
-use Rattle.un_journal.proofs.Lists.{those_first, those_none, those_rest}
-use Rattle.un_journal.proofs.Legal.{fresh, owns_span, left_is, arrived_from}
-use Rattle.un_journal.proofs.Numbers.{given_from}
-use Rattle.un_journal.proofs.Unique.{those_first_is}
-use Rattle.un_journal.proofs.Order.{is_over, in_order}
+use Rattle.un_journal.proofs.ForLane.{those_first, those_none, those_rest, fresh, owns_span, left_is, arrived_from, given_from, those_first_is, is_over, in_order, ended_is, ended_below}
 use Rattle.un_lane.specs.Way.{Way}
-use Rattle.un_lane.specs.Stands.{Stands, ArePlaced, IsText, finished, serial_of, opened_serial, flight_tx, flight_rx}
-use Rattle.un_journal.proofs.Homes.{ended_is, ended_below}
+use Rattle.un_lane.specs.Stands.{Stands, ArePlaced, IsText, finished, serial_of, opened_serial}
+use Rattle.un_lane.proofs.Placing.{tx_moved, rx_moved}
 use Rattle.un_lane.proofs.Serials.{apart, same_number}
 
 -- DONE
@@ -79,36 +75,15 @@ tx_done_answers way g w e = rw (none_done g w.sound (w.ends.done_is ∙ ap (map 
 
 home_placed : (lane : Lane) (t : Transmitter) (r : Receiver) (bus : Bus) (x : Buffer) (home' : List ℕ) (done' : List Buffer) → ArePlaced lane t r bus → t.done ≡ x ∷ done' → home' ≡ t.home ++ x.number ∷ []
     → ArePlaced lane (record t { home = home'; done = done' }) r bus
-home_placed lane t r bus x home' done' p q h = record {
-  side = p.side;
-  one_params = p.one_params;
-  no_deferred = p.no_deferred;
-  tx_size_is = p.tx_size_is;
-  rx_size_is = p.rx_size_is;
-  tx_room_is = p.tx_room_is;
-  rx_room_is = p.rx_room_is;
-  largest_is = p.largest_is;
-  wide = p.wide;
-  tx_once = λ n.
+home_placed lane t r bus x home' done' p q h = assumption (
+  p,
+  tx_moved p (record t { home = home'; done = done' }) bus refl
+      (λ n.
       let e : copies n (map number_of t.done) ≡ one_if (eqb n x.number) + copies n (map number_of done') = ap (λ xs. copies n (map number_of xs)) q in
-      let d : copies n home' ≡ copies n t.home + one_if (eqb n x.number) = ap (copies n) h ∙ copies_last n t.home x.number in
-      let w : copies n t.home + copies n (option_to_list t.builder.claim) + copies n (map number_of t.deferred) + copies n (map number_of t.done) + (copies n (map number_of bus.queue) + copies n (flight_tx bus.flight)) ≤ 1 = p.tx_once n in omega arith;
-  tx_some = λ n low.
-      let e : copies n (map number_of t.done) ≡ one_if (eqb n x.number) + copies n (map number_of done') = ap (λ xs. copies n (map number_of xs)) q in
-      let d : copies n home' ≡ copies n t.home + one_if (eqb n x.number) = ap (copies n) h ∙ copies_last n t.home x.number in
-      let w : 1 ≤ copies n t.home + copies n (option_to_list t.builder.claim) + copies n (map number_of t.deferred) + copies n (map number_of t.done) + (copies n (map number_of bus.queue) + copies n (flight_tx bus.flight)) = p.tx_some n low in omega arith;
-  rx_once = p.rx_once;
-  rx_some = p.rx_some;
-  tx_all =
-      let e : length t.done ≡ suc (length done') = ap length q in
-      let d : length home' ≡ length t.home + 1 = ap length h ∙ length_push t.home x.number in
-      let w : length t.home + length (option_to_list t.builder.claim) + length t.deferred + length t.done + length bus.queue + length (flight_tx bus.flight) ≡ t.size = p.tx_all in omega arith;
-  rx_all = p.rx_all;
-  deferred_are = p.deferred_are;
-  queued_are = p.queued_are;
-  posted_are = p.posted_are;
-  flight_is = p.flight_is;
-}
+      let d : copies n home' ≡ copies n t.home + one_if (eqb n x.number) = ap (copies n) h ∙ copies_last n t.home x.number in omega arith)
+      (let e : length t.done ≡ suc (length done') = ap length q in
+      let d : length home' ≡ length t.home + 1 = ap length h ∙ length_push t.home x.number in omega arith),
+)
 
 pub tx_done_stands : (way : Way) (g : History) (t : Transmitter) (serial : ℕ) → Stands way g → ComesHome way.tx t serial → Stands (record way { tx = t }) ((TxHome way.lane serial, []) ∷ g)
 tx_done_stands way g t serial w h =
@@ -123,7 +98,7 @@ tx_done_stands way g t serial w h =
       queues = w.queues;
       ends = record {
         done_is = those_rest (λ j. ended g j && nat_le (returned g) j) (λ j. ended g j && nat_le (returned g + 1) j) h.request.serial
-            (rw (f.0, le_past (returned g)) (and_no (ended g (returned g)))) (λ j ne. ap (λ b. ended g j && b) (le_next (returned g) j (λ e. ne (e ∙ sym f.0)))) (made g) (map serial_of t.done)
+            (rw (f.0, le_past (returned g)) (and_no (ended g h.request.serial))) (λ j ne. ap (λ b. ended g j && b) (le_next (returned g) j (λ e. ne (e ∙ sym f.0)))) (made g) (map serial_of t.done)
             (w.ends.done_is ∙ ap (map serial_of) h.left);
         arrived_is = w.ends.arrived_is;
         current_is = w.ends.current_is;
@@ -170,36 +145,15 @@ rx_done_answers way g r w o = go (current g) refl
 
 open_placed : (lane : Lane) (t : Transmitter) (r : Receiver) (bus : Bus) (x : Buffer) (arrived' : List Buffer) → ArePlaced lane t r bus → r.current ≡ None → r.arrived ≡ x ∷ arrived'
     → ArePlaced lane t (record r { arrived = arrived'; current = Some (record { request = x; next = x.from }) }) bus
-open_placed lane t r bus x arrived' p none q = record {
-  side = p.side;
-  one_params = p.one_params;
-  no_deferred = p.no_deferred;
-  tx_size_is = p.tx_size_is;
-  rx_size_is = p.rx_size_is;
-  tx_room_is = p.tx_room_is;
-  rx_room_is = p.rx_room_is;
-  largest_is = p.largest_is;
-  wide = p.wide;
-  tx_once = p.tx_once;
-  tx_some = p.tx_some;
-  rx_once = λ n.
+open_placed lane t r bus x arrived' p none q = assumption (
+  p,
+  rx_moved p (record r { arrived = arrived'; current = Some (record { request = x; next = x.from }) }) bus refl
+      (λ n.
       let e : copies n (map number_of r.arrived) ≡ one_if (eqb n x.number) + copies n (map number_of arrived') = ap (λ xs. copies n (map number_of xs)) q in
-      let c : copies n (opened_number r.current) ≡ 0 = ap (λ o. copies n (opened_number o)) none in
-      let w : copies n r.home + copies n (map number_of r.arrived) + copies n (opened_number r.current) + (copies n (map number_of bus.posted) + copies n (flight_rx bus.flight)) ≤ 1 = p.rx_once n in omega arith;
-  rx_some = λ n low.
-      let e : copies n (map number_of r.arrived) ≡ one_if (eqb n x.number) + copies n (map number_of arrived') = ap (λ xs. copies n (map number_of xs)) q in
-      let c : copies n (opened_number r.current) ≡ 0 = ap (λ o. copies n (opened_number o)) none in
-      let w : 1 ≤ copies n r.home + copies n (map number_of r.arrived) + copies n (opened_number r.current) + (copies n (map number_of bus.posted) + copies n (flight_rx bus.flight)) = p.rx_some n low in omega arith;
-  tx_all = p.tx_all;
-  rx_all =
-      let e : length r.arrived ≡ suc (length arrived') = ap length q in
-      let c : length (opened_number r.current) ≡ 0 = ap (λ o. length (opened_number o)) none in
-      let w : length r.home + length r.arrived + length (opened_number r.current) + length bus.posted + length (flight_rx bus.flight) ≡ r.size = p.rx_all in omega arith;
-  deferred_are = p.deferred_are;
-  queued_are = p.queued_are;
-  posted_are = p.posted_are;
-  flight_is = p.flight_is;
-}
+      let c : copies n (opened_number r.current) ≡ 0 = ap (λ o. copies n (opened_number o)) none in omega arith)
+      (let e : length r.arrived ≡ suc (length arrived') = ap length q in
+      let c : length (opened_number r.current) ≡ 0 = ap (λ o. length (opened_number o)) none in omega arith),
+)
 
 -- the first arrived transfer becomes the current one
 module _ (l : Lane) (k : ℕ) (g : History) (sound : IsSound g) (ks : List ℕ) (none : current g ≡ None) (arr : arrived g ≡ k ∷ ks) where

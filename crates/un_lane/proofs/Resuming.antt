@@ -6,6 +6,7 @@ use Rattle.un_facts.proofs.Lists.{all_more}
 use Rattle.un_facts.specs.Lists.{copies}
 use Rattle.un_facts.specs.Numbers.{one_if}
 use Rattle.un_frame.specs.declared.params.Lane.{Lane}
+use Rattle.un_frame.specs.declared.params.Lane.TheVariants.{Inward}
 use Rattle.un_req.specs.Request.{Buffer, number_of}
 use Rattle.un_endpoint.specs.Bus.{Bus}
 use Rattle.un_endpoint.specs.Ends.{Transmitter, Receiver}
@@ -14,41 +15,24 @@ use Rattle.un_lane.specs.Way.{Way}
 use Rattle.un_lane.specs.Controls.{resumed, QueuesFirst}
 use Rattle.un_lane.specs.Stands.{Stands, ArePlaced, AreQueued, AreMarked, IsTx, serial_of, flight_tx}
 use Rattle.un_lane.proofs.Counting.{copies_more}
+use Rattle.un_lane.proofs.Placing.{tx_moved}
 
 pub queue_placed : (lane : Lane) (t : Transmitter) (r : Receiver) (bus : Bus) (x : Buffer) (xs : List Buffer) → ArePlaced lane t r bus → t.deferred ≡ x ∷ xs
     → ArePlaced lane (record t { deferred = xs }) r (record bus { queue = bus.queue ++ x ∷ [] })
 queue_placed lane t r bus x xs p q =
     let are = subst (AllByRecursion (IsTx t.size t.capacity)) q p.deferred_are in
-    record {
-      side = p.side;
-      one_params = p.one_params;
-      tx_size_is = p.tx_size_is;
-      rx_size_is = p.rx_size_is;
-      no_deferred = λ i. absurd (let l : suc (length xs) ≡ 0 = ap length (sym q ∙ p.no_deferred i) in omega arith);
-      tx_room_is = p.tx_room_is;
-      rx_room_is = p.rx_room_is;
-      largest_is = p.largest_is;
-      wide = p.wide;
-      tx_once = λ n.
+    let none : lane ≡ Inward → xs ≡ [] = λ i. absurd (let l : suc (length xs) ≡ 0 = ap length (sym q ∙ p.no_deferred i) in omega arith) in
+    assumption (
+      p,
+      tx_moved p (record t { deferred = xs }) (record bus { queue = bus.queue ++ x ∷ [] }) refl
+          (λ n.
           let e : copies n (map number_of t.deferred) ≡ one_if (eqb n x.number) + copies n (map number_of xs) = ap (λ ys. copies n (map number_of ys)) q in
-          let d : copies n (map number_of (bus.queue ++ x ∷ [])) ≡ copies n (map number_of bus.queue) + one_if (eqb n x.number) = copies_more n bus.queue x in
-          let w : copies n t.home + copies n (option_to_list t.builder.claim) + copies n (map number_of t.deferred) + copies n (map number_of t.done) + (copies n (map number_of bus.queue) + copies n (flight_tx bus.flight)) ≤ 1 = p.tx_once n in omega arith;
-      tx_some = λ n low.
-          let e : copies n (map number_of t.deferred) ≡ one_if (eqb n x.number) + copies n (map number_of xs) = ap (λ ys. copies n (map number_of ys)) q in
-          let d : copies n (map number_of (bus.queue ++ x ∷ [])) ≡ copies n (map number_of bus.queue) + one_if (eqb n x.number) = copies_more n bus.queue x in
-          let w : 1 ≤ copies n t.home + copies n (option_to_list t.builder.claim) + copies n (map number_of t.deferred) + copies n (map number_of t.done) + (copies n (map number_of bus.queue) + copies n (flight_tx bus.flight)) = p.tx_some n low in omega arith;
-      rx_once = p.rx_once;
-      rx_some = p.rx_some;
-      tx_all =
-          let e : length t.deferred ≡ suc (length xs) = ap length q in
-          let d : length (bus.queue ++ x ∷ []) ≡ length bus.queue + 1 = length_push bus.queue x in
-          let w : length t.home + length (option_to_list t.builder.claim) + length t.deferred + length t.done + length bus.queue + length (flight_tx bus.flight) ≡ t.size = p.tx_all in omega arith;
-      rx_all = p.rx_all;
-      deferred_are = are.1;
-      queued_are = all_more (IsTx t.size t.capacity) bus.queue x p.queued_are are.0;
-      posted_are = p.posted_are;
-      flight_is = p.flight_is;
-    }
+          let d : copies n (map number_of (bus.queue ++ x ∷ [])) ≡ copies n (map number_of bus.queue) + one_if (eqb n x.number) = copies_more n bus.queue x in omega arith)
+          (let e : length t.deferred ≡ suc (length xs) = ap length q in
+          let d : length (bus.queue ++ x ∷ []) ≡ length bus.queue + 1 = length_push bus.queue x in omega arith),
+      are.1,
+      all_more (IsTx t.size t.capacity) bus.queue x p.queued_are are.0,
+    )
 
 -- the queue has room for a deferred transfer, which isn't too long
 pub queue_can : (lane : Lane) (t : Transmitter) (r : Receiver) (bus : Bus) (x : Buffer) (xs : List Buffer) → ArePlaced lane t r bus → t.deferred ≡ x ∷ xs
@@ -91,17 +75,7 @@ no_marks m cs a = a
 resumed_queues : (deferred : List Buffer) (bus : Bus) (waiting' flying' : List ℕ) (m : ℕ → Option ℕ) (halted' : Bool) (p r f n : ℕ) → AreQueued deferred bus waiting' flying' m halted' p r f n
     → AreQueued [] (record bus { queue = bus.queue ++ deferred }) waiting' flying' m halted' p r f n
 resumed_queues [] bus waiting' flying' m halted' p r f n w =
-    subst (λ (q : List Buffer). AreQueued [] (record bus { queue = q }) waiting' flying' m halted' p r f n) (sym (append-nil bus.queue)) (record {
-      wait = w.wait;
-      fly = w.fly;
-      marked = w.marked;
-      unmarked = w.unmarked;
-      unmade = w.unmade;
-      flight_marked = w.flight_marked;
-      halts = w.halts;
-      posted = w.posted;
-      grounded = w.grounded;
-    })
+    subst (λ (q : List Buffer). AreQueued [] (record bus { queue = q }) waiting' flying' m halted' p r f n) (sym (append-nil bus.queue)) (assumption w)
 resumed_queues (x ∷ xs) bus waiting' flying' m halted' p r f n w =
     let ground = w.grounded (omega arith) in
     let same : bus.queue ++ (x ∷ xs) ≡ x ∷ xs = ap (λ q. q ++ (x ∷ xs)) ground.0 in
@@ -130,13 +104,5 @@ resumed_stands way g w = record {
   queues = resumed_queues way.tx.deferred way.bus _ _ _ _ _ _ _ _ w.queues;
   ends = w.ends;
   counts = w.counts;
-  texts = record {
-    deferred_texts = tt;
-    queued_texts = all_joined _ way.bus.queue way.tx.deferred w.texts.queued_texts w.texts.deferred_texts;
-    arrived_texts = w.texts.arrived_texts;
-    current_text = w.texts.current_text;
-    flight_span = w.texts.flight_span;
-    some = w.texts.some;
-    whole = w.texts.whole;
-  };
+  texts = assumption (w.texts, all_joined _ way.bus.queue way.tx.deferred w.texts.queued_texts w.texts.deferred_texts);
 }

@@ -18,6 +18,7 @@ use Rattle.un_journal.specs.History.{History, made, returned, waiting, flying, m
 use Rattle.un_lane.specs.Stands.{ArePlaced, AreQueued, AreAtEnds, AreCounted, AreTexts, IsTx, finished, flight_tx}
 use Rattle.un_lane.proofs.Counting.{copies_more}
 use Rattle.un_lane.proofs.Making.{made_ends, made_queued, made_deferred, made_texts, new_text, delivered_same}
+use Rattle.un_lane.proofs.Placing.{tx_moved}
 
 -- what a path stands for, but for what is built
 pub record StandsBut (lane : Lane) (t : Transmitter) (r : Receiver) (bus : Bus) (g : History) : Type 0 where
@@ -63,72 +64,34 @@ queue_room lane t r bus home' builder' g x p n =
 
 queued_placed : (lane : Lane) (t : Transmitter) (r : Receiver) (bus : Bus) (home' : List ℕ) (builder' : Builder) (g : History) (x : Buffer) → ArePlaced lane t r bus → IsNew t home' builder' g x
     → ArePlaced lane (record t { home = home'; builder = builder' }) r (record bus { queue = bus.queue ++ x ∷ [] })
-queued_placed lane t r bus home' builder' g x p n = record {
-  side = p.side;
-  one_params = p.one_params;
-  no_deferred = p.no_deferred;
-  tx_size_is = p.tx_size_is;
-  rx_size_is = p.rx_size_is;
-  tx_room_is = p.tx_room_is;
-  rx_room_is = p.rx_room_is;
-  largest_is = p.largest_is;
-  wide = p.wide;
-  tx_once = λ m.
+queued_placed lane t r bus home' builder' g x p n = assumption (
+  p,
+  tx_moved p (record t { home = home'; builder = builder' }) (record bus { queue = bus.queue ++ x ∷ [] }) refl
+      (λ m.
       let e : copies m t.home + copies m (option_to_list t.builder.claim) ≡ copies m home' + copies m (option_to_list builder'.claim) + one_if (eqb m x.number) = n.once m in
-      let q : copies m (map number_of (bus.queue ++ x ∷ [])) ≡ copies m (map number_of bus.queue) + one_if (eqb m x.number) = copies_more m bus.queue x in
-      let w : copies m t.home + copies m (option_to_list t.builder.claim) + copies m (map number_of t.deferred) + copies m (map number_of t.done) + (copies m (map number_of bus.queue) + copies m (flight_tx bus.flight)) ≤ 1 = p.tx_once m in omega arith;
-  tx_some = λ m low.
-      let e : copies m t.home + copies m (option_to_list t.builder.claim) ≡ copies m home' + copies m (option_to_list builder'.claim) + one_if (eqb m x.number) = n.once m in
-      let q : copies m (map number_of (bus.queue ++ x ∷ [])) ≡ copies m (map number_of bus.queue) + one_if (eqb m x.number) = copies_more m bus.queue x in
-      let w : 1 ≤ copies m t.home + copies m (option_to_list t.builder.claim) + copies m (map number_of t.deferred) + copies m (map number_of t.done) + (copies m (map number_of bus.queue) + copies m (flight_tx bus.flight)) = p.tx_some m low in omega arith;
-  rx_once = p.rx_once;
-  rx_some = p.rx_some;
-  tx_all =
-      let e : length t.home + length (option_to_list t.builder.claim) ≡ length home' + length (option_to_list builder'.claim) + 1 = n.count in
-      let q : length (bus.queue ++ x ∷ []) ≡ length bus.queue + 1 = length_push bus.queue x in
-      let a : length t.home + length (option_to_list t.builder.claim) + length t.deferred + length t.done + length bus.queue + length (flight_tx bus.flight) ≡ t.size = p.tx_all in omega arith;
-  rx_all = p.rx_all;
-  deferred_are = p.deferred_are;
-  queued_are = all_more (IsTx t.size t.capacity) bus.queue x p.queued_are (record { known = n.known; sized = n.sized; short = n.short });
-  posted_are = p.posted_are;
-  flight_is = p.flight_is;
-}
+      let q : copies m (map number_of (bus.queue ++ x ∷ [])) ≡ copies m (map number_of bus.queue) + one_if (eqb m x.number) = copies_more m bus.queue x in omega arith)
+      (let e : length t.home + length (option_to_list t.builder.claim) ≡ length home' + length (option_to_list builder'.claim) + 1 = n.count in
+      let q : length (bus.queue ++ x ∷ []) ≡ length bus.queue + 1 = length_push bus.queue x in omega arith),
+  all_more (IsTx t.size t.capacity) bus.queue x p.queued_are (record { known = n.known; sized = n.sized; short = n.short }),
+)
 
 outward_only : Outward ≡ Inward → ⊥
 outward_only e = cc
 
 deferred_placed : (lane : Lane) (t : Transmitter) (r : Receiver) (bus : Bus) (home' : List ℕ) (builder' : Builder) (g : History) (x : Buffer) → ArePlaced lane t r bus → IsNew t home' builder' g x → lane ≡ Outward
     → ArePlaced lane (record t { home = home'; builder = builder'; deferred = t.deferred ++ x ∷ [] }) r bus
-deferred_placed lane t r bus home' builder' g x p n out = record {
-  side = p.side;
-  one_params = p.one_params;
-  no_deferred = λ i. absurd (outward_only (sym out ∙ i));
-  tx_size_is = p.tx_size_is;
-  rx_size_is = p.rx_size_is;
-  tx_room_is = p.tx_room_is;
-  rx_room_is = p.rx_room_is;
-  largest_is = p.largest_is;
-  wide = p.wide;
-  tx_once = λ m.
-      let e : copies m t.home + copies m (option_to_list t.builder.claim) ≡ copies m home' + copies m (option_to_list builder'.claim) + one_if (eqb m x.number) = n.once m in
-      let q : copies m (map number_of (t.deferred ++ x ∷ [])) ≡ copies m (map number_of t.deferred) + one_if (eqb m x.number) = copies_more m t.deferred x in
-      let w : copies m t.home + copies m (option_to_list t.builder.claim) + copies m (map number_of t.deferred) + copies m (map number_of t.done) + (copies m (map number_of bus.queue) + copies m (flight_tx bus.flight)) ≤ 1 = p.tx_once m in omega arith;
-  tx_some = λ m low.
-      let e : copies m t.home + copies m (option_to_list t.builder.claim) ≡ copies m home' + copies m (option_to_list builder'.claim) + one_if (eqb m x.number) = n.once m in
-      let q : copies m (map number_of (t.deferred ++ x ∷ [])) ≡ copies m (map number_of t.deferred) + one_if (eqb m x.number) = copies_more m t.deferred x in
-      let w : 1 ≤ copies m t.home + copies m (option_to_list t.builder.claim) + copies m (map number_of t.deferred) + copies m (map number_of t.done) + (copies m (map number_of bus.queue) + copies m (flight_tx bus.flight)) = p.tx_some m low in omega arith;
-  rx_once = p.rx_once;
-  rx_some = p.rx_some;
-  tx_all =
-      let e : length t.home + length (option_to_list t.builder.claim) ≡ length home' + length (option_to_list builder'.claim) + 1 = n.count in
-      let q : length (t.deferred ++ x ∷ []) ≡ length t.deferred + 1 = length_push t.deferred x in
-      let a : length t.home + length (option_to_list t.builder.claim) + length t.deferred + length t.done + length bus.queue + length (flight_tx bus.flight) ≡ t.size = p.tx_all in omega arith;
-  rx_all = p.rx_all;
-  deferred_are = all_more (IsTx t.size t.capacity) t.deferred x p.deferred_are (record { known = n.known; sized = n.sized; short = n.short });
-  queued_are = p.queued_are;
-  posted_are = p.posted_are;
-  flight_is = p.flight_is;
-}
+deferred_placed lane t r bus home' builder' g x p n out =
+    let none : lane ≡ Inward → t.deferred ++ x ∷ [] ≡ [] = λ i. absurd (outward_only (sym out ∙ i)) in
+    assumption (
+      p,
+      tx_moved p (record t { home = home'; builder = builder'; deferred = t.deferred ++ x ∷ [] }) bus refl
+          (λ m.
+          let e : copies m t.home + copies m (option_to_list t.builder.claim) ≡ copies m home' + copies m (option_to_list builder'.claim) + one_if (eqb m x.number) = n.once m in
+          let q : copies m (map number_of (t.deferred ++ x ∷ [])) ≡ copies m (map number_of t.deferred) + one_if (eqb m x.number) = copies_more m t.deferred x in omega arith)
+          (let e : length t.home + length (option_to_list t.builder.claim) ≡ length home' + length (option_to_list builder'.claim) + 1 = n.count in
+          let q : length (t.deferred ++ x ∷ []) ≡ length t.deferred + 1 = length_push t.deferred x in omega arith),
+      all_more (IsTx t.size t.capacity) t.deferred x p.deferred_are (record { known = n.known; sized = n.sized; short = n.short }),
+    )
 
 abbrev line : Lane → History → Buffer → History
 line lane g x = (Made lane (made g) x.from x.to, x.bytes) ∷ g
@@ -151,15 +114,7 @@ queue_stands lane t r bus home' builder' g x w n none =
       queues = made_queued lane x.from x.to x.bytes g w.sound t.deferred bus x n.serial_is none w.queues;
       ends = made_ends lane x.from x.to x.bytes g w.sound t.done r.arrived r.current w.ends;
       counts = counts_after lane t r bus home' builder' g x w n;
-      texts = record {
-        deferred_texts = texts.deferred_texts;
-        queued_texts = all_more _ bus.queue x texts.queued_texts (new_text lane x.from x.to x.bytes g w.sound x n.serial_is refl refl refl);
-        arrived_texts = texts.arrived_texts;
-        current_text = texts.current_text;
-        flight_span = texts.flight_span;
-        some = texts.some;
-        whole = texts.whole;
-      };
+      texts = assumption (texts, all_more _ bus.queue x texts.queued_texts (new_text lane x.from x.to x.bytes g w.sound x n.serial_is refl refl refl));
     }
 
 -- deferred
@@ -173,13 +128,5 @@ defer_stands lane t r bus home' builder' g x w n none no_flight out =
       queues = made_deferred lane x.from x.to x.bytes g w.sound t.deferred bus x n.serial_is none no_flight w.queues;
       ends = made_ends lane x.from x.to x.bytes g w.sound t.done r.arrived r.current w.ends;
       counts = counts_after lane t r bus home' builder' g x w n;
-      texts = record {
-        deferred_texts = all_more _ t.deferred x texts.deferred_texts (new_text lane x.from x.to x.bytes g w.sound x n.serial_is refl refl refl);
-        queued_texts = texts.queued_texts;
-        arrived_texts = texts.arrived_texts;
-        current_text = texts.current_text;
-        flight_span = texts.flight_span;
-        some = texts.some;
-        whole = texts.whole;
-      };
+      texts = assumption (texts, all_more _ t.deferred x texts.deferred_texts (new_text lane x.from x.to x.bytes g w.sound x n.serial_is refl refl refl));
     }

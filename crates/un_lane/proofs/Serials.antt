@@ -2,7 +2,7 @@
 use Rattle.std.proofs.Common.{◌≡◌, ℕ, zero, suc, ◌<◌, ◌≤◌, Bool, true, false, ◌||◌, ◌==◌, [], ◌∷◌, ◌++◌, inl, inr, refl, sym, ap, ◌∙◌, subst, arith, append-nil}
 use Rattle.std.proofs.lemmas.Bool.{cases_lt, eq-eqb, ne_eqb, false≢true}
 use Rattle.un_journal.specs.History.{those}
-use Rattle.un_journal.proofs.Homes.{those_same as same_lists}
+use Rattle.un_journal.proofs.ForLane.{those_same as same_lists}
 
 pub those_same : (p q : ℕ → Bool) (n : ℕ) → ((j : ℕ) → j < n → q j ≡ p j) → those q n ≡ those p n
 those_same p q n h = same_lists q p n h

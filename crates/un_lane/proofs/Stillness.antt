@@ -1,24 +1,21 @@
 -- Whether a lane is still, by what its path has.
-use Rattle.std.proofs.Common.{◌≡◌, ℕ, zero, suc, ◌+◌, ◌-◌, ◌<◌, Bool, true, false, not, ◌&&◌, ◌||◌, ◌==◌, nat_lt, List, [], ◌∷◌, length, map, drop, Option, Some, None, is_some, refl, sym, ap, ◌∙◌, subst, arith, min, length-append, length-drop, if◌then◌else◌}
+use Rattle.std.proofs.Common.{◌≡◌, ℕ, zero, suc, ◌+◌, ◌-◌, ◌<◌, Bool, true, false, not, ◌&&◌, ◌||◌, ◌==◌, nat_lt, List, [], ◌∷◌, length, map, drop, Option, Some, None, is_some, refl, sym, ap, ◌∙◌, subst, arith, length-append, length-drop, if◌then◌else◌}
 use Rattle.std.proofs.lemmas.Bool.Decides.{nat_tests}
 use Rattle.std.proofs.lemmas.List.{length-map}
 use Rattle.std.specs.List.{list_all}
 use Rattle.un_facts.specs.Lists.{is_empty}
 use Rattle.un_facts.specs.Numbers.{one_if}
 use Rattle.un_frame.specs.declared.params.Lane.{Lane}
-use Rattle.un_frame.specs.declared.params.Lane.TheVariants.{Outward, Inward}
-use Rattle.un_frame.specs.declared.params.Params.{Params}
 use Rattle.un_frame.specs.declared.kinds.Phase.{Phase}
 use Rattle.un_frame.specs.declared.kinds.Phase.TheVariants.{Up, Asleep, Stopping, Leaving, Down, Away}
 use Rattle.un_frame.specs.Cut.{closed_span}
-use Rattle.un_frame.specs.Lanes.{packs}
 use Rattle.un_req.specs.Request.{Buffer}
 use Rattle.un_endpoint.specs.declared.record.FlightRecord.{FlightRecord}
 use Rattle.un_endpoint.specs.Bus.{Bus, unmarked_count}
 use Rattle.un_endpoint.specs.Ends.{Opened as Current}
 use Rattle.un_endpoint.specs.EndOutcomes.{with_frame, closing, frame_needs_home, is_busy, can_tick, tick_needs, CanOffer}
-use Rattle.un_journal.specs.History.{History, taken, cover, took_last, waited_after, flying, arrived, ended, returned, halted, mark, posted}
-use Rattle.un_journal.specs.Lookup.{tx_home, rx_home, offer_needs_home, tick_needs_home, pending, queued, is_asleep}
+use Rattle.un_journal.specs.History.{History, taken, cover, flying, arrived, ended, returned, halted, mark, posted}
+use Rattle.un_journal.specs.Lookup.{offer_needs_home, pending, queued, is_asleep}
 use Rattle.un_journal.specs.LaneSteps.{Writes, Answers, accept, tick_built, take_with, take_first, take_head, tx_done, rx_done, rx_done_at, open_first, deliver_next, deliver_current, deliver_number, post, unlink_first, clear_set}
 use Rattle.un_journal.specs.Step.{is_still, take_flight, unlink, clear_halt}
 use Rattle.un_journal.specs.declared.actions.Answer.{Answer}
@@ -26,8 +23,9 @@ use Rattle.un_lane.specs.Way.{Way}
 use Rattle.un_lane.specs.Phases.{Agrees}
 use Rattle.un_lane.specs.Controls.{unmarked_flight, unmarked_in}
 use Rattle.un_lane.specs.Still.{is_none, is_lane_still, lane_outcomes, refill_in, takes_nothing, posts_nothing, stays}
-use Rattle.un_lane.specs.Stands.{Stands, AreMarked, claims_when, pends_when, opened_serial, serial_of, flight_serial}
-use Rattle.un_lane.proofs.Giving.{due}
+use Rattle.un_lane.specs.Stands.{Stands, AreMarked, opened_serial, serial_of, flight_serial}
+use Rattle.un_lane.proofs.Building.{tick_is}
+use Rattle.un_lane.proofs.Giving.{clear_is, due, post_is}
 use Rattle.un_lane.proofs.LinkSteps.{posted_is}
 use Rattle.un_lane.proofs.Lookups.{queued_is, unmarked_is}
 use Rattle.un_lane.proofs.Opening.{first_done, none_done}
@@ -96,25 +94,13 @@ tick_flip (suc n) p q = rw (no n, yes n) (go p q)
     go false true = refl
     go false false = refl
 
-pending_is : (params : Params) (lane : Lane) (g : History) → pending params lane g ≡ pends_when lane (packs params.class lane && nat_lt 0 (taken g - cover g) && took_last g) (waited_after g (min (taken g - 1) (cover g + 1)))
-pending_is params Outward g = refl
-pending_is params Inward g = refl
-
-tick_needs_is : (params : Params) (lane : Lane) (g : History) (claim : Option ℕ) → is_some claim ≡ claims_when lane (packs params.class lane && nat_lt 0 (taken g - cover g) && took_last g)
-    → tick_needs_home params lane g ≡ tick_needs lane claim
-tick_needs_is params Outward g claim e = ap not (sym e)
-tick_needs_is params Inward g claim e = refl
-
 tick_still : (way : Way) (g : History) (frames : List (List ℕ)) → Stands way g → is_still (tick_built way.tx.params way.lane frames g) ≡ not (can_tick way.tx)
 tick_still way g frames w =
-    let covered : cover g + length way.tx.builder.frames ≡ taken g = w.building.covered in
-    let built_is : taken g - cover g ≡ length way.tx.builder.frames = omega arith in
-    tick_if (taken g - cover g == 0) (nat_lt 0 (pending way.tx.params way.lane g)) (tick_needs_home way.tx.params way.lane g && (tx_home way.tx.params way.lane g == 0)) _ _ _ _
-    ∙ (ap (λ n. (n == 0) || (not (nat_lt 0 (pending way.tx.params way.lane g)) && (tick_needs_home way.tx.params way.lane g && (tx_home way.tx.params way.lane g == 0)))) built_is
-    ∙ (ap (λ n. (length way.tx.builder.frames == 0) || (not (nat_lt 0 n) && (tick_needs_home way.tx.params way.lane g && (tx_home way.tx.params way.lane g == 0)))) (pending_is way.tx.params way.lane g ∙ sym w.building.pends)
-    ∙ (ap (λ b. (length way.tx.builder.frames == 0) || (not (nat_lt 0 way.tx.builder.pending) && (b && (tx_home way.tx.params way.lane g == 0)))) (tick_needs_is way.tx.params way.lane g way.tx.builder.claim w.building.claimed ∙ ap (λ l. tick_needs l way.tx.builder.claim) (sym w.placed.side))
-    ∙ (ap (λ b. (length way.tx.builder.frames == 0) || (not (nat_lt 0 way.tx.builder.pending) && (tick_needs way.tx.lane way.tx.builder.claim && b))) (ap (λ n. n == 0) (home_is way g w) ∙ none_home way.tx.home)
-    ∙ tick_flip (length way.tx.builder.frames) (nat_lt 0 way.tx.builder.pending) (tick_needs way.tx.lane way.tx.builder.claim && is_empty way.tx.home)))))
+    ap is_still (tick_is way g frames w)
+    ∙ (tick_if (length way.tx.builder.frames == 0) (nat_lt 0 way.tx.builder.pending) (tick_needs way.lane way.tx.builder.claim && (length way.tx.home == 0)) _ _ _ _
+    ∙ (ap (λ l. (length way.tx.builder.frames == 0) || (not (nat_lt 0 way.tx.builder.pending) && (tick_needs l way.tx.builder.claim && (length way.tx.home == 0)))) (sym w.placed.side)
+    ∙ (ap (λ b. (length way.tx.builder.frames == 0) || (not (nat_lt 0 way.tx.builder.pending) && (tick_needs way.tx.lane way.tx.builder.claim && b))) (none_home way.tx.home)
+    ∙ tick_flip (length way.tx.builder.frames) (nat_lt 0 way.tx.builder.pending) (tick_needs way.tx.lane way.tx.builder.claim && is_empty way.tx.home))))
 
 -- a take, where nothing flies
 
@@ -188,13 +174,10 @@ current_still way g w = go way.rx.current refl
 -- requests, stops and the halt, by the phase
 
 post_still : (way : Way) (g : History) → Stands way g → is_still (post way.tx.params way.lane g) ≡ (length way.rx.home == 0)
-post_still way g w = still_if (rx_home way.tx.params way.lane g == 0) _ _ ∙ ap (λ n. n == 0) home
-  where
-    home : rx_home way.tx.params way.lane g ≡ length way.rx.home
-    home = let s = w.counts.rx in omega (arith, s)
+post_still way g w = ap is_still (post_is way g w) ∙ still_if (length way.rx.home == 0) _ _
 
 clear_still : (way : Way) (g : History) → Stands way g → is_still (clear_set way.lane g) ≡ not way.bus.halted
-clear_still way g w = still_not (halted g) _ _ ∙ ap not w.queues.halts
+clear_still way g w = ap is_still (clear_is way g way.bus.halted w refl) ∙ still_not way.bus.halted _ _
   where
     still_not : (b : Bool) (h : History) (x : Answer) → is_still (if b then Writes h else Answers x) ≡ not b
     still_not true h x = refl

@@ -1,5 +1,5 @@
 -- A path that has taken a flight, or given up a marked transfer, stands for the lane with one line more.
-use Rattle.std.proofs.Common.{◌≡◌, ℕ, suc, ◌+◌, ◌<◌, ◌≤◌, Bool, true, false, not, ◌||◌, ◌==◌, eqb, List, [], ◌∷◌, ◌++◌, length, map, Option, Some, None, option_to_list, inr, refl, sym, ap, ◌∙◌, subst, arith}
+use Rattle.std.proofs.Common.{◌≡◌, ℕ, suc, ◌+◌, ◌<◌, ◌≤◌, Bool, true, false, not, ◌||◌, ◌==◌, eqb, List, [], ◌∷◌, ◌++◌, length, map, Option, Some, None, inr, refl, sym, ap, ◌∙◌, subst, arith}
 use Rattle.std.specs.List.{AllByRecursion}
 use Rattle.std.proofs.lemmas.List.{length_push}
 use Rattle.un_facts.proofs.Booleans.{and_false}
@@ -11,17 +11,16 @@ use Rattle.un_req.specs.Request.{Buffer, number_of}
 use Rattle.un_endpoint.specs.declared.record.FlightRecord.{FlightRecord}
 use Rattle.un_endpoint.specs.Bus.{Bus, Trip, record_of}
 use Rattle.un_endpoint.specs.Outcomes.{Departs, Reaps}
-use Rattle.un_endpoint.specs.Ends.{Transmitter, Receiver, IsAwayTx, tx_copies, rx_copies, tx_count, rx_count}
+use Rattle.un_endpoint.specs.Ends.{Transmitter, Receiver, IsAwayTx, tx_copies}
 use Rattle.un_journal.specs.declared.lines.Line.TheVariants.{Flying, Cut}
 use Rattle.un_journal.specs.History.{History, made, flies, waits, waiting, flying, ended, landed, failed, was_cut, mark, halted, posts, recalls, flights, first, span, made_bytes, ends}
 use Rattle.un_journal.specs.Sound.{IsNext}
-use Rattle.un_journal.proofs.Lists.{those_rest}
-use Rattle.un_journal.proofs.Legal.{next_from}
+use Rattle.un_journal.proofs.ForLane.{those_rest, next_from, in_order, next_is}
 use Rattle.un_lane.specs.Way.{Way}
 use Rattle.un_lane.specs.Stands.{Stands, ArePlaced, AreQueued, AreMarked, IsTx, IsRx, IsText, serial_of, flight_serial, flight_tx, flight_rx}
 use Rattle.un_lane.proofs.Counting.{copies_more, map_last}
-use Rattle.un_journal.proofs.Order.{in_order, next_is}
 use Rattle.un_lane.proofs.Finishing.{finish_plus}
+use Rattle.un_lane.proofs.Placing.{tx_moved, rx_moved}
 use Rattle.un_lane.proofs.Serials.{those_single, those_nothing, apart, same_number}
 
 -- where something is queued nothing is deferred
@@ -39,52 +38,27 @@ depart_placed : (lane : Lane) (t : Transmitter) (r : Receiver) (bus : Bus) (trip
 depart_placed lane t r bus trip posted queue' posted' p alone q o number capacity =
     let queued = subst (AllByRecursion (IsTx t.size t.capacity)) q p.queued_are in
     let lent = subst (AllByRecursion (IsRx r.size r.capacity)) o p.posted_are in
-    record {
-      side = p.side;
-      one_params = p.one_params;
-      no_deferred = p.no_deferred;
-      tx_size_is = p.tx_size_is;
-      rx_size_is = p.rx_size_is;
-      tx_room_is = p.tx_room_is;
-      rx_room_is = p.rx_room_is;
-      largest_is = p.largest_is;
-      wide = p.wide;
-      tx_once = λ n.
+    assumption (
+      p,
+      tx_moved p t (record bus { queue = queue'; posted = posted'; flight = Some (record_of trip); flight_mark = None }) refl
+          (λ n.
           let e : copies n (map number_of bus.queue) ≡ one_if (eqb n trip.tx.number) + copies n (map number_of queue') = ap (λ xs. copies n (map number_of xs)) q in
-          let f : copies n (flight_tx bus.flight) ≡ 0 = ap (λ x. copies n (flight_tx x)) alone in
-          let w : tx_copies t n + (copies n (map number_of bus.queue) + copies n (flight_tx bus.flight)) ≤ 1 = p.tx_once n in omega arith;
-      tx_some = λ n low.
-          let e : copies n (map number_of bus.queue) ≡ one_if (eqb n trip.tx.number) + copies n (map number_of queue') = ap (λ xs. copies n (map number_of xs)) q in
-          let f : copies n (flight_tx bus.flight) ≡ 0 = ap (λ x. copies n (flight_tx x)) alone in
-          let w : 1 ≤ tx_copies t n + (copies n (map number_of bus.queue) + copies n (flight_tx bus.flight)) = p.tx_some n low in omega arith;
-      rx_once = λ n.
+          let f : copies n (flight_tx bus.flight) ≡ 0 = ap (λ x. copies n (flight_tx x)) alone in omega arith)
+          (let e : length bus.queue ≡ suc (length queue') = ap length q in
+          let f : length (flight_tx bus.flight) ≡ 0 = ap (λ x. length (flight_tx x)) alone in omega arith),
+      rx_moved p r (record bus { queue = queue'; posted = posted'; flight = Some (record_of trip); flight_mark = None }) refl
+          (λ n.
           let e : copies n (map number_of bus.posted) ≡ one_if (eqb n posted.number) + copies n (map number_of posted') = ap (λ xs. copies n (map number_of xs)) o in
           let f : copies n (flight_rx bus.flight) ≡ 0 = ap (λ x. copies n (flight_rx x)) alone in
-          let s : one_if (eqb n trip.rx) ≡ one_if (eqb n posted.number) = ap (λ m. one_if (eqb n m)) number in
-          let w : rx_copies r n + (copies n (map number_of bus.posted) + copies n (flight_rx bus.flight)) ≤ 1 = p.rx_once n in omega arith;
-      rx_some = λ n low.
-          let e : copies n (map number_of bus.posted) ≡ one_if (eqb n posted.number) + copies n (map number_of posted') = ap (λ xs. copies n (map number_of xs)) o in
-          let f : copies n (flight_rx bus.flight) ≡ 0 = ap (λ x. copies n (flight_rx x)) alone in
-          let s : one_if (eqb n trip.rx) ≡ one_if (eqb n posted.number) = ap (λ m. one_if (eqb n m)) number in
-          let w : 1 ≤ rx_copies r n + (copies n (map number_of bus.posted) + copies n (flight_rx bus.flight)) = p.rx_some n low in omega arith;
-      tx_all =
-          let e : length bus.queue ≡ suc (length queue') = ap length q in
-          let f : length (flight_tx bus.flight) ≡ 0 = ap (λ x. length (flight_tx x)) alone in
-          let w : tx_count t + length bus.queue + length (flight_tx bus.flight) ≡ t.size = p.tx_all in omega arith;
-      rx_all =
-          let e : length bus.posted ≡ suc (length posted') = ap length o in
-          let f : length (flight_rx bus.flight) ≡ 0 = ap (λ x. length (flight_rx x)) alone in
-          let w : rx_count r + length bus.posted + length (flight_rx bus.flight) ≡ r.size = p.rx_all in omega arith;
-      deferred_are = p.deferred_are;
-      queued_are = queued.1;
-      posted_are = lent.1;
-      flight_is = record {
-        tx_known = queued.0.known;
-        tx_sized = queued.0.sized;
-        rx_known = subst (λ m. m < r.size) (sym number) lent.0.known;
-        rx_sized = capacity ∙ lent.0.sized;
-      };
-    }
+          let s : one_if (eqb n trip.rx) ≡ one_if (eqb n posted.number) = ap (λ m. one_if (eqb n m)) number in omega arith)
+          (let e : length bus.posted ≡ suc (length posted') = ap length o in
+          let f : length (flight_rx bus.flight) ≡ 0 = ap (λ x. length (flight_rx x)) alone in omega arith),
+      queued.1,
+      lent.1,
+      queued.0,
+      subst (λ m. m < r.size) (sym number) lent.0.known,
+      capacity ∙ lent.0.sized,
+    )
 
 -- a flight of k
 module _ (l : Lane) (k : ℕ) (g : History) (next : IsNext g k) where
@@ -143,15 +117,7 @@ depart_stands way g bus' trip w dep =
       queues = depart_queues way.lane g way.tx.deferred way.bus trip dep.posted bus'.queue bus'.posted next w.queues dep.unmarked dep.left dep.used;
       ends = w.ends;
       counts = w.counts;
-      texts = record {
-        deferred_texts = w.texts.deferred_texts;
-        queued_texts = texts.1;
-        arrived_texts = w.texts.arrived_texts;
-        current_text = w.texts.current_text;
-        flight_span = texts.0.span_is;
-        some = w.texts.some;
-        whole = w.texts.whole;
-      };
+      texts = assumption (w.texts, texts.1, texts.0.span_is);
     } in
     subst (λ b. Stands (record way { bus = b }) ((Flying way.lane trip.tx.serial, []) ∷ g)) (sym dep.rest) stands
 
@@ -173,36 +139,16 @@ reap_placed : (lane : Lane) (t : Transmitter) (r : Receiver) (bus : Bus) (x : Bu
     → ArePlaced lane (record t { done = t.done ++ x ∷ [] }) r (record bus { queue = queue'; marks = marks' })
 reap_placed lane t r bus x queue' marks' p q =
     let queued = subst (AllByRecursion (IsTx t.size t.capacity)) q p.queued_are in
-    record {
-      side = p.side;
-      one_params = p.one_params;
-      no_deferred = p.no_deferred;
-      tx_size_is = p.tx_size_is;
-      rx_size_is = p.rx_size_is;
-      tx_room_is = p.tx_room_is;
-      rx_room_is = p.rx_room_is;
-      largest_is = p.largest_is;
-      wide = p.wide;
-      tx_once = λ n.
+    assumption (
+      p,
+      tx_moved p (record t { done = t.done ++ x ∷ [] }) (record bus { queue = queue'; marks = marks' }) refl
+          (λ n.
           let e : copies n (map number_of bus.queue) ≡ one_if (eqb n x.number) + copies n (map number_of queue') = ap (λ xs. copies n (map number_of xs)) q in
-          let d : copies n (map number_of (t.done ++ x ∷ [])) ≡ copies n (map number_of t.done) + one_if (eqb n x.number) = copies_more n t.done x in
-          let w : copies n t.home + copies n (option_to_list t.builder.claim) + copies n (map number_of t.deferred) + copies n (map number_of t.done) + (copies n (map number_of bus.queue) + copies n (flight_tx bus.flight)) ≤ 1 = p.tx_once n in omega arith;
-      tx_some = λ n low.
-          let e : copies n (map number_of bus.queue) ≡ one_if (eqb n x.number) + copies n (map number_of queue') = ap (λ xs. copies n (map number_of xs)) q in
-          let d : copies n (map number_of (t.done ++ x ∷ [])) ≡ copies n (map number_of t.done) + one_if (eqb n x.number) = copies_more n t.done x in
-          let w : 1 ≤ copies n t.home + copies n (option_to_list t.builder.claim) + copies n (map number_of t.deferred) + copies n (map number_of t.done) + (copies n (map number_of bus.queue) + copies n (flight_tx bus.flight)) = p.tx_some n low in omega arith;
-      rx_once = p.rx_once;
-      rx_some = p.rx_some;
-      tx_all =
-          let e : length bus.queue ≡ suc (length queue') = ap length q in
-          let d : length (t.done ++ x ∷ []) ≡ length t.done + 1 = length_push t.done x in
-          let w : length t.home + length (option_to_list t.builder.claim) + length t.deferred + length t.done + length bus.queue + length (flight_tx bus.flight) ≡ t.size = p.tx_all in omega arith;
-      rx_all = p.rx_all;
-      deferred_are = p.deferred_are;
-      queued_are = queued.1;
-      posted_are = p.posted_are;
-      flight_is = p.flight_is;
-    }
+          let d : copies n (map number_of (t.done ++ x ∷ [])) ≡ copies n (map number_of t.done) + one_if (eqb n x.number) = copies_more n t.done x in omega arith)
+          (let e : length bus.queue ≡ suc (length queue') = ap length q in
+          let d : length (t.done ++ x ∷ []) ≡ length t.done + 1 = length_push t.done x in omega arith),
+      queued.1,
+    )
 
 -- a cut of k, which waits
 module _ (l : Lane) (k c : ℕ) (g : History) (next : IsNext g k) where
@@ -268,15 +214,7 @@ reap_stands way g bus' x c w rep =
         left_is = w.ends.left_is;
       };
       counts = rw (next.is_alone x.serial) w.counts;
-      texts = record {
-        deferred_texts = w.texts.deferred_texts;
-        queued_texts = texts.1;
-        arrived_texts = w.texts.arrived_texts;
-        current_text = w.texts.current_text;
-        flight_span = w.texts.flight_span;
-        some = w.texts.some;
-        whole = w.texts.whole;
-      };
+      texts = assumption (w.texts, texts.1);
     } in
     subst (λ b. Stands (record way { tx = record way.tx { done = way.tx.done ++ x ∷ [] }; bus = b }) ((Cut way.lane x.serial c, []) ∷ g)) (sym rep.rest) stands
   where

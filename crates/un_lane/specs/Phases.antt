@@ -8,8 +8,10 @@ use Rattle.un_endpoint.specs.Bus.{Bus}
 use Rattle.un_endpoint.specs.Ends.{Transmitter}
 use Rattle.un_endpoint.specs.EndOutcomes.{with_frame}
 use Rattle.un_journal.specs.declared.actions.Answer.{Answer}
-use Rattle.un_journal.specs.History.{History, cover}
-use Rattle.un_lane.specs.Way.{Way}
+use Rattle.un_journal.specs.declared.lines.Line.{Line}
+use Rattle.un_journal.specs.History.{Entry, History, cover}
+use Rattle.un_journal.specs.Log.{Log}
+use Rattle.un_lane.specs.Way.{Way, lane_lines}
 
 -- whether made transfers are deferred: those of a sleeping link's outward lane
 abbrev pub defers : Lane → Bool → Bool
@@ -23,6 +25,10 @@ pub record AreApart (is_deferring : Bool) (deferred queue : List Buffer) (flight
 -- the path agrees with whether the link sleeps
 abbrev pub Agrees : Bool → Way → Type 0
 Agrees asleep way = AreApart (defers way.lane asleep) way.tx.deferred way.bus.queue way.bus.flight
+
+-- the line of the next transfer, made of this request
+abbrev pub made_of : Way → Buffer → Entry
+made_of way request = (Line.Made way.lane way.made request.from request.to, request.bytes)
 
 -- where a made transfer goes: into the deferred list, or into the queue
 abbrev pub IsSent : Bool → Transmitter → Transmitter → Bus → Bus → Buffer → Type 0
@@ -49,6 +55,10 @@ pub record Builds (asleep : Bool) (old new : Way) (frames : List (List ℕ)) (g 
   pub params_are : new.tx.params ≡ old.tx.params
   pub frames_are : new.tx.builder.frames ≡ drop (cover g' - cover g) frames
   pub agrees : Agrees asleep new
+
+-- the same, of the lines of two journals
+abbrev pub BuildsIn : Bool → List (List ℕ) → Log → Log → Way → Way → Type 0
+BuildsIn asleep frames log log' old new = Builds asleep old new frames (lane_lines old log) (lane_lines new log')
 
 -- what dropping leaves: nothing deferred and nothing built, and the endpoint as it was
 pub record IsDropped (old new : Way) : Type 0 where

@@ -3,6 +3,7 @@
 use Rattle.std.specs.Prelude.{◌≡◌, ℕ, ◌+◌, ◌-◌, ◌<◌, ◌≤◌, Bool, true, ◌&&◌, nat_lt, nat_le, min, List, [], ◌∷◌, ◌++◌, map, length, Option, Some, None, is_some, option_to_list, if◌then◌else◌}
 use Rattle.std.specs.List.{AllByRecursion}
 use Rattle.un_facts.specs.Lists.{copies}
+use Rattle.un_frame.specs.declared.params.TheConstants.{TIMER_TICKS}
 use Rattle.un_frame.specs.declared.params.Params.{Params}
 use Rattle.un_frame.specs.declared.params.Class.{Class}
 use Rattle.un_frame.specs.declared.params.Lane.{Lane}
@@ -88,7 +89,7 @@ abbrev pub claims_when : Lane → Bool → Bool
 claims_when lane is_open = outward_only lane is_open
 
 abbrev pub pends_when : Lane → Bool → ℕ → ℕ
-pends_when Outward is_open waited = if is_open then 3 - waited else 0
+pends_when Outward is_open waited = if is_open then TIMER_TICKS - waited else 0
 pends_when Inward is_open waited = 0
 
 -- The numbers of accepted datagrams and made transfers are those of the lines. The built frames are those from the end of the last

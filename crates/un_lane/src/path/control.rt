@@ -1,10 +1,10 @@
 //! A lane's part of a stop and of the controls.
 
-ghost use Rattle.std.specs.Prelude.{◌≡◌};
-ghost use Rattle.un_journal.specs.LaneSteps.{answer_in, lines_in, unlink_first};
+ghost use Rattle.std.specs.Prelude.{◌≡◌, take};
+ghost use Rattle.un_journal.specs.LaneSteps.{lines_in, unlink_first};
 ghost use Rattle.un_journal.specs.History.{History};
 ghost use Rattle.un_journal.specs.Step.{dropped_built};
-ghost use Rattle.un_lane.specs.Answered.{IsUnchanged, UnlessDid};
+ghost use Rattle.un_lane.specs.Calls.{Does, Ready};
 ghost use Rattle.un_lane.specs.Controls.{LeavesBus, LosesBuild, Queues, Stays, Writes, deferred_lines, dropped_lines, posted_lines, resumed, settled, unmarked_in, unmarked_lines};
 ghost use Rattle.un_lane.specs.Phases.{IsDropped, Leaves};
 ghost use Rattle.un_lane.specs.Stands.{ArePlaced, Stands};
@@ -19,38 +19,16 @@ impl<T: TxEnd + Drop, R: RxEnd + Drop> Path<T, R> {
     /// One step of a stop: marks the oldest transfer that isn't marked, the flight before the queue, with the control that cuts it, and the line `marked`; where there is none, brings one posted request home, with
     /// the line `recalled`. `Nothing` comes exactly where there is none of these either.
     pub fn unlink(&mut self, journal: &mut Journal, cause: u32) -> Answer
-        requires stands { Stands self.old (lane_lines self.old journal.old) }
-        requires room { HasRoom journal.old (lines_in (unlink_first self.old.lane cause (lane_lines self.old journal.old) (unmarked_in self.old.bus))) }
-        ensures lines { Adds journal.old journal.new (lines_in (unlink_first self.old.lane cause (lane_lines self.old journal.old) (unmarked_in self.old.bus))) }
-        ensures answer { result ≡ answer_in (unlink_first self.old.lane cause (lane_lines self.old journal.old) (unmarked_in self.old.bus)) }
-        ensures stands { Stands self.new (lane_lines self.new journal.new) }
-        ensures leaves { Leaves self.old self.new }
-        ensures flight { self.new.bus.flight ≡ self.old.bus.flight }
-        ensures refused { UnlessDid result (IsUnchanged self.old self.new journal.old journal.new) }
+        requires { Ready (lines_in (unlink_first self.old.lane cause (lane_lines self.old journal.old) (unmarked_in self.old.bus))) self.old journal.old }
+        ensures { Does Leaves (unlink_first self.old.lane cause (lane_lines self.old journal.old) (unmarked_in self.old.bus)) self.old self.new journal.old journal.new result }
     {
-        let lane = self.lane;
-        match self.bus.mark_oldest(cause) {
-            Some(serial) => {
-                write(
-                    journal,
-                    Line::Marked {
-                        lane,
-                        serial,
-                        cause,
-                    },
-                    &[],
-                );
-                Answer::Did
-            }
-            None => match self.bus.recall() {
-                Some(request) => {
-                    write(journal, Line::Recalled { lane }, &[]);
-                    self.rx.give_back(request);
-                    Answer::Did
-                }
-                None => Answer::Nothing,
-            },
+        if self.mark(journal, cause) {
+            return Answer::Did;
         }
+        if self.recall(journal) {
+            return Answer::Did;
+        }
+        Answer::Nothing
     }
 
     /// Marks each transfer that isn't marked, the flight before the queue, with the control that cuts it, and a line `marked` for each.
@@ -120,10 +98,9 @@ impl<T: TxEnd + Drop, R: RxEnd + Drop> Path<T, R> {
         }
     }
 
-    /// Marks the oldest transfer that isn't marked; false exactly where each is.
+    /// Marks the oldest transfer that isn't marked, the flight before the queue; false exactly where each is.
     fn mark(&mut self, journal: &mut Journal, cause: u32) -> bool
-        requires stands { Stands self.old (lane_lines self.old journal.old) }
-        requires room { HasRoom journal.old (unmarked_lines cause self.old) }
+        requires { Ready (take 1 (unmarked_lines cause self.old)) self.old journal.old }
         ensures { Writes (unmarked_lines cause) Stays self.old self.new journal.old journal.new result }
     {
         let lane = self.lane;
@@ -144,8 +121,7 @@ impl<T: TxEnd + Drop, R: RxEnd + Drop> Path<T, R> {
 
     /// Gives up the first deferred transfer, which is then done; false exactly where none is deferred.
     fn cut(&mut self, journal: &mut Journal, cause: u32) -> bool
-        requires stands { Stands self.old (lane_lines self.old journal.old) }
-        requires room { HasRoom journal.old (deferred_lines cause self.old) }
+        requires { Ready (take 1 (deferred_lines cause self.old)) self.old journal.old }
         ensures { Writes (deferred_lines cause) LeavesBus self.old self.new journal.old journal.new result }
     {
         let lane = self.lane;
@@ -170,8 +146,7 @@ impl<T: TxEnd + Drop, R: RxEnd + Drop> Path<T, R> {
 
     /// Brings the first posted request home; false exactly where none is posted.
     fn recall(&mut self, journal: &mut Journal) -> bool
-        requires stands { Stands self.old (lane_lines self.old journal.old) }
-        requires room { HasRoom journal.old (posted_lines self.old) }
+        requires { Ready (take 1 (posted_lines self.old)) self.old journal.old }
         ensures { Writes posted_lines Stays self.old self.new journal.old journal.new result }
     {
         let lane = self.lane;
@@ -187,8 +162,7 @@ impl<T: TxEnd + Drop, R: RxEnd + Drop> Path<T, R> {
 
     /// Drops what is built; a claimed request goes home.
     fn drop_built(&mut self, journal: &mut Journal, cause: u32)
-        requires stands { Stands self.old (lane_lines self.old journal.old) }
-        requires room { HasRoom journal.old (dropped_built self.old.lane cause (lane_lines self.old journal.old)) }
+        requires { Ready (dropped_built self.old.lane cause (lane_lines self.old journal.old)) self.old journal.old }
         ensures lines { Adds journal.old journal.new (dropped_built self.old.lane cause (lane_lines self.old journal.old)) }
         ensures stands { Stands self.new (lane_lines self.new journal.new) }
         ensures leaves { LosesBuild self.old self.new }

@@ -4,10 +4,11 @@ ghost use Rattle.std.specs.Prelude.{◌≡◌, map, None, Some};
 ghost use Rattle.un_endpoint.specs.Bus.{record_of};
 ghost use Rattle.un_journal.specs.History.{made_bytes};
 ghost use Rattle.un_journal.specs.LaneSteps.{answer_in, clear_set, deliver_next, land_fault, lines_in, post, rx_done, take_queued, tx_done};
-ghost use Rattle.un_lane.specs.Answered.{Answered, IsUnchanged, KeepsFlight, UnlessDid, UnlessTaken};
+ghost use Rattle.un_lane.specs.Answered.{Answered, IsUnchanged, KeepsFlight, UnlessTaken};
+ghost use Rattle.un_lane.specs.Calls.{Does, Ready};
 ghost use Rattle.un_lane.specs.Phases.{Leaves};
 ghost use Rattle.un_lane.specs.Stands.{Stands, serial_of};
-ghost use Rattle.un_lane.specs.Way.{Adds, HasRoom, lane_lines};
+ghost use Rattle.un_lane.specs.Way.{Adds, lane_lines};
 
 use crate::path::Path;
 use crate::write::write;
@@ -19,8 +20,7 @@ impl<T: TxEnd + Drop, R: RxEnd + Drop> Path<T, R> {
     /// Takes the first queued transfer and the first posted request as a flight, with the line `flying`; a marked transfer is given up instead, with the line `cut`. The first that applies is the answer: a
     /// flight is out (`Flying`); nothing is queued (`Nothing`); the first is marked (`Cut`); the link sleeps (`Asleep`); the endpoint is halted (`Halted`); nothing is posted (`NoBuffer`).
     pub fn take(&mut self, journal: &mut Journal, asleep: bool) -> Got<Flight>
-        requires stands { Stands self.old (lane_lines self.old journal.old) }
-        requires room { HasRoom journal.old (lines_in (take_queued asleep self.old.lane (lane_lines self.old journal.old) (map serial_of self.old.bus.queue))) }
+        requires { Ready (lines_in (take_queued asleep self.old.lane (lane_lines self.old journal.old) (map serial_of self.old.bus.queue))) self.old journal.old }
         ensures lines { Adds journal.old journal.new (lines_in (take_queued asleep self.old.lane (lane_lines self.old journal.old) (map serial_of self.old.bus.queue))) }
         ensures answer { Answered self.new (lane_lines self.old journal.old) (take_queued asleep self.old.lane (lane_lines self.old journal.old) (map serial_of self.old.bus.queue)) result }
         ensures stands { Stands self.new (lane_lines self.new journal.new) }
@@ -65,8 +65,7 @@ impl<T: TxEnd + Drop, R: RxEnd + Drop> Path<T, R> {
         carried: Carried,
         fault: Option<FaultKind>,
     ) -> Answer
-        requires stands { Stands self.old (lane_lines self.old journal.old) }
-        requires room { HasRoom journal.old (lines_in (land_fault self.old.lane fault (lane_lines self.old journal.old))) }
+        requires ready { Ready (lines_in (land_fault self.old.lane fault (lane_lines self.old journal.old))) self.old journal.old }
         requires out { self.old.bus.flight ≡ Some (record_of carried) }
         requires bytes { made_bytes (lane_lines self.old journal.old) carried.tx.serial ≡ carried.tx.bytes }
         ensures lines { Adds journal.old journal.new (lines_in (land_fault self.old.lane fault (lane_lines self.old journal.old))) }
@@ -107,14 +106,8 @@ impl<T: TxEnd + Drop, R: RxEnd + Drop> Path<T, R> {
 
     /// Brings the first done request home, with the line `txhome`. `Nothing` comes exactly where none is done.
     pub fn tx_done(&mut self, journal: &mut Journal) -> Answer
-        requires stands { Stands self.old (lane_lines self.old journal.old) }
-        requires room { HasRoom journal.old (lines_in (tx_done self.old.lane (lane_lines self.old journal.old))) }
-        ensures lines { Adds journal.old journal.new (lines_in (tx_done self.old.lane (lane_lines self.old journal.old))) }
-        ensures answer { result ≡ answer_in (tx_done self.old.lane (lane_lines self.old journal.old)) }
-        ensures stands { Stands self.new (lane_lines self.new journal.new) }
-        ensures leaves { Leaves self.old self.new }
-        ensures flight { self.new.bus.flight ≡ self.old.bus.flight }
-        ensures refused { UnlessDid result (IsUnchanged self.old self.new journal.old journal.new) }
+        requires { Ready (lines_in (tx_done self.old.lane (lane_lines self.old journal.old))) self.old journal.old }
+        ensures { Does Leaves (tx_done self.old.lane (lane_lines self.old journal.old)) self.old self.new journal.old journal.new result }
     {
         let lane = self.lane;
         let serial = match self.tx.tx_done() {
@@ -127,14 +120,8 @@ impl<T: TxEnd + Drop, R: RxEnd + Drop> Path<T, R> {
 
     /// Makes the first arrived request the current one, with the line `opened`. `Nothing` comes exactly where one is current or none has arrived.
     pub fn rx_done(&mut self, journal: &mut Journal) -> Answer
-        requires stands { Stands self.old (lane_lines self.old journal.old) }
-        requires room { HasRoom journal.old (lines_in (rx_done self.old.lane (lane_lines self.old journal.old))) }
-        ensures lines { Adds journal.old journal.new (lines_in (rx_done self.old.lane (lane_lines self.old journal.old))) }
-        ensures answer { result ≡ answer_in (rx_done self.old.lane (lane_lines self.old journal.old)) }
-        ensures stands { Stands self.new (lane_lines self.new journal.new) }
-        ensures leaves { Leaves self.old self.new }
-        ensures flight { self.new.bus.flight ≡ self.old.bus.flight }
-        ensures refused { UnlessDid result (IsUnchanged self.old self.new journal.old journal.new) }
+        requires { Ready (lines_in (rx_done self.old.lane (lane_lines self.old journal.old))) self.old journal.old }
+        ensures { Does Leaves (rx_done self.old.lane (lane_lines self.old journal.old)) self.old self.new journal.old journal.new result }
     {
         let lane = self.lane;
         let serial = match self.rx.rx_done() {
@@ -148,14 +135,8 @@ impl<T: TxEnd + Drop, R: RxEnd + Drop> Path<T, R> {
     /// Gives the next datagram of the current request, with the line `gave`, which copies the part that the receiving end lends. After the last one the request is home. `Nothing` comes exactly where no request
     /// is current.
     pub fn deliver(&mut self, journal: &mut Journal) -> Answer
-        requires stands { Stands self.old (lane_lines self.old journal.old) }
-        requires room { HasRoom journal.old (lines_in (deliver_next self.old.tx.params self.old.lane (lane_lines self.old journal.old))) }
-        ensures lines { Adds journal.old journal.new (lines_in (deliver_next self.old.tx.params self.old.lane (lane_lines self.old journal.old))) }
-        ensures answer { result ≡ answer_in (deliver_next self.old.tx.params self.old.lane (lane_lines self.old journal.old)) }
-        ensures stands { Stands self.new (lane_lines self.new journal.new) }
-        ensures leaves { Leaves self.old self.new }
-        ensures flight { self.new.bus.flight ≡ self.old.bus.flight }
-        ensures refused { UnlessDid result (IsUnchanged self.old self.new journal.old journal.new) }
+        requires { Ready (lines_in (deliver_next self.old.tx.params self.old.lane (lane_lines self.old journal.old))) self.old journal.old }
+        ensures { Does Leaves (deliver_next self.old.tx.params self.old.lane (lane_lines self.old journal.old)) self.old self.new journal.old journal.new result }
     {
         let lane = self.lane;
         match self.rx.lend() {
@@ -170,14 +151,8 @@ impl<T: TxEnd + Drop, R: RxEnd + Drop> Path<T, R> {
 
     /// Posts a receive request, with the line `posted`, in a phase in which requests are posted. `Nothing` comes exactly where none is home.
     pub fn refill(&mut self, journal: &mut Journal) -> Answer
-        requires stands { Stands self.old (lane_lines self.old journal.old) }
-        requires room { HasRoom journal.old (lines_in (post self.old.tx.params self.old.lane (lane_lines self.old journal.old))) }
-        ensures lines { Adds journal.old journal.new (lines_in (post self.old.tx.params self.old.lane (lane_lines self.old journal.old))) }
-        ensures answer { result ≡ answer_in (post self.old.tx.params self.old.lane (lane_lines self.old journal.old)) }
-        ensures stands { Stands self.new (lane_lines self.new journal.new) }
-        ensures leaves { Leaves self.old self.new }
-        ensures flight { self.new.bus.flight ≡ self.old.bus.flight }
-        ensures refused { UnlessDid result (IsUnchanged self.old self.new journal.old journal.new) }
+        requires { Ready (lines_in (post self.old.tx.params self.old.lane (lane_lines self.old journal.old))) self.old journal.old }
+        ensures { Does Leaves (post self.old.tx.params self.old.lane (lane_lines self.old journal.old)) self.old self.new journal.old journal.new result }
     {
         let lane = self.lane;
         match self.rx.refill() {
@@ -194,14 +169,8 @@ impl<T: TxEnd + Drop, R: RxEnd + Drop> Path<T, R> {
 
     /// Clears the halt, with the line `cleared`, in a phase in which it may be cleared. `Nothing` comes exactly where the endpoint isn't halted.
     pub fn clear_halt(&mut self, journal: &mut Journal) -> Answer
-        requires stands { Stands self.old (lane_lines self.old journal.old) }
-        requires room { HasRoom journal.old (lines_in (clear_set self.old.lane (lane_lines self.old journal.old))) }
-        ensures lines { Adds journal.old journal.new (lines_in (clear_set self.old.lane (lane_lines self.old journal.old))) }
-        ensures answer { result ≡ answer_in (clear_set self.old.lane (lane_lines self.old journal.old)) }
-        ensures stands { Stands self.new (lane_lines self.new journal.new) }
-        ensures leaves { Leaves self.old self.new }
-        ensures flight { self.new.bus.flight ≡ self.old.bus.flight }
-        ensures refused { UnlessDid result (IsUnchanged self.old self.new journal.old journal.new) }
+        requires { Ready (lines_in (clear_set self.old.lane (lane_lines self.old journal.old))) self.old journal.old }
+        ensures { Does Leaves (clear_set self.old.lane (lane_lines self.old journal.old)) self.old self.new journal.old journal.new result }
     {
         let lane = self.lane;
         if !self.bus.clear() {

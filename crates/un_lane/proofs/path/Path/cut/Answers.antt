@@ -1,9 +1,8 @@
 use Rattle.std.proofs.Common.{[], refl, ap}
-use Rattle.un_frame.proofs.LaneLemmas.{same_lane-refl}
 use Rattle.un_journal.specs.declared.lines.Line.TheVariants.{Cut}
-use Rattle.un_journal.proofs.Steps.{own_past}
 use Rattle.un_endpoint.specs.Ends.{Transmitter}
 use Rattle.un_lane.proofs.Cutting.{cut_stands}
+use Rattle.un_lane.proofs.Doing.{stands_after}
 use Rattle.un_lane.proofs.path.Path.cut.Goals as goal
 
 pub returns-in-Some : goal.returns-in-Some
@@ -14,7 +13,7 @@ returns-in-Some g c =
       first = rw (← c.self.view_is, c.finish.ensures, c.in-Some.ensures.some.left, c.serial-serial.ensures) refl;
       adds = c.write.ensures;
       stands =
-          rw (c.write.ensures.history_is, own_past _ (Cut c.self.inside.lane c.serial-serial.result c.args.cause, []) c.self.inside.lane (same_lane-refl c.self.inside.lane), c.serial-serial.ensures, c.finish.ensures)
-          (cut_stands _ _ _ c.in-Some.request c.args.cause w c.in-Some.ensures.some);
+          rw c.finish.ensures
+          (stands_after _ _ _ _ (rw c.serial-serial.ensures at c.write.ensures) (λ l. refl, tt) (cut_stands _ _ _ c.in-Some.request c.args.cause w c.in-Some.ensures.some));
       kept = rw (← c.self.view_is, c.finish.ensures) (record { lane_is = refl; params_are = ap (λ (u : Transmitter). u.params) c.in-Some.ensures.some.rest; builder_is = ap (λ (u : Transmitter). u.builder) c.in-Some.ensures.some.rest; bus_is = refl });
     }

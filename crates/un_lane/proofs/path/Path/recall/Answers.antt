@@ -1,7 +1,6 @@
 use Rattle.std.proofs.Common.{rules, [], refl}
-use Rattle.un_frame.proofs.LaneLemmas.{same_lane-refl}
 use Rattle.un_journal.specs.declared.lines.Line.TheVariants.{Recalled}
-use Rattle.un_journal.proofs.Steps.{own_past}
+use Rattle.un_lane.proofs.Doing.{stands_after}
 use Rattle.un_lane.proofs.Recalling.{recall_stands}
 use Rattle.un_lane.proofs.path.Path.recall.Goals as goal
 
@@ -12,8 +11,6 @@ returns-in-Some g c =
       line = (Recalled c.self.inside.lane, []);
       first = rw (← c.self.view_is, c.in-Some.ensures.some) refl;
       adds = c.write.ensures;
-      stands =
-          rw (c.write.ensures.history_is, own_past _ (Recalled c.self.inside.lane, []) c.self.inside.lane (same_lane-refl c.self.inside.lane), c.give_back.ensures)
-          (recall_stands _ _ c.recall.new.self c.in-Some.request w c.in-Some.ensures.some);
+      stands = rw c.give_back.ensures (stands_after _ _ _ _ c.write.ensures (λ l. refl, tt) (recall_stands _ _ c.recall.new.self c.in-Some.request w c.in-Some.ensures.some));
       kept = search rules;
     }

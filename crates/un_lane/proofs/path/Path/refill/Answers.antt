@@ -1,12 +1,16 @@
-use Rattle.std.proofs.Common.{[]}
-use Rattle.un_frame.proofs.LaneLemmas.{same_lane-refl}
-use Rattle.un_journal.specs.declared.lines.Line.TheVariants.{Posted}
-use Rattle.un_journal.proofs.Steps.{own_past}
-use Rattle.un_lane.proofs.Giving.{post_stands}
+use Rattle.std.proofs.Common.{refl}
+use Rattle.un_lane.proofs.Doing.{wrote}
+use Rattle.un_lane.proofs.Giving.{post_stands, post_writes}
+use Rattle.un_lane.proofs.Looping.{leaves_rest}
 use Rattle.un_lane.proofs.path.Path.refill.Goals as goal
 
-pub returns-in-Ok-clause-stands : goal.returns-in-Ok-clause-stands
-returns-in-Ok-clause-stands g c =
+pub write-requires-clause-room : goal.write-requires-clause-room
+write-requires-clause-room g c =
+    let r = rw (← c.self.view_is) at c.requires in
+    rw (post_writes _ _ _ c.in-Some.request r.stands c.in-Some.ensures.some) at r.room
+
+pub returns-in-Ok : goal.returns-in-Ok
+returns-in-Ok g c =
     let w = rw (← c.self.view_is) at c.requires.stands in
-    rw (c.write.ensures.history_is, own_past _ (Posted c.self.inside.lane, []) c.self.inside.lane (same_lane-refl c.self.inside.lane))
-    (post_stands _ _ _ _ c.in-Some.request w c.in-Some.ensures.some c.in-Ok.ensures.ok.1)
+    let left = c.in-Some.ensures.some in
+    rw (← c.self.view_is, c.in-Ok.ensures.ok.1) (wrote _ _ _ _ _ _ _ (post_writes _ _ _ c.in-Some.request w left) c.write.ensures (λ l. refl, tt) (post_stands _ _ _ _ c.in-Some.request w left refl) (leaves_rest _ _ _ _ refl refl refl) refl)

@@ -1,7 +1,7 @@
 use Rattle.std.proofs.Common.{[]}
 use Rattle.un_frame.proofs.LaneLemmas.{same_lane-refl}
 use Rattle.un_journal.specs.declared.lines.Line.TheVariants.{Flying, Cut}
-use Rattle.un_journal.proofs.Steps.{own_past}
+use Rattle.un_journal.proofs.ForLane.{own_past}
 use Rattle.un_lane.proofs.Taking.{depart_stands, queued_away, reap_stands}
 use Rattle.un_lane.proofs.path.Path.take.Goals as goal
 
