@@ -5,9 +5,7 @@ use Rattle.un_frame.specs.declared.params.Lane.TheVariants.{Outward, Inward}
 use Rattle.un_journal.specs.History.{History, past, concerns, posted}
 use Rattle.un_journal.specs.Log.{Log}
 use Rattle.un_journal.specs.Step.{recalled_each, dropped_built}
-use Rattle.un_journal.proofs.Onto.{onto, AllOf, filter_of, filter_append, past_onto}
-use Rattle.un_journal.proofs.LaneFacts.{past_own, past_other}
-use Rattle.un_journal.proofs.Rules.{onto_marked, cut_of, marked_of, recalled_of, dropped_of}
+use Rattle.un_journal.proofs.ForLink.{onto, AllOf, filter_of, filter_append, past_onto, past_own, past_other, onto_marked, cut_of, marked_of, recalled_of, dropped_of}
 use Rattle.un_lane.specs.Way.{Way, HasRoom, Adds}
 use Rattle.un_lane.specs.Controls.{Stays, unmarked_in, unmarked_lines, deferred_lines, posted_lines, dropped_lines}
 use Rattle.un_lane.specs.Stands.{Stands}

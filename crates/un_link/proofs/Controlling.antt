@@ -18,9 +18,7 @@ use Rattle.un_journal.specs.LaneSteps.{Outcome, Writes, Answers, lines_in, answe
 use Rattle.un_journal.specs.Step.{control, control_head, control_now, control_forced, order_lines, marked_each, recalled_each, hinders, is_due, quiet}
 use Rattle.un_journal.specs.Sound.{IsSound}
 use Rattle.un_journal.specs.Fits.{Controls}
-use Rattle.un_journal.proofs.Onto.{onto, newest, onto_append, past_onto}
-use Rattle.un_journal.proofs.LaneFacts.{phase_kept, controls_kept}
-use Rattle.un_journal.proofs.Rules.{onto_marked, onto_recalled, onto_stop, order_part, order_filter, order_still, stop_part}
+use Rattle.un_journal.proofs.ForLink.{onto, newest, onto_append, past_onto, phase_kept, controls_kept, onto_marked, onto_recalled, onto_stop, order_part, order_filter, order_still, stop_part}
 use Rattle.un_lane.specs.Way.{Way, HasRoom, Adds}
 use Rattle.un_lane.specs.Stands.{serial_of, flight_serial}
 use Rattle.un_lane.proofs.Adding.{adds_more, room_rest}
@@ -50,12 +48,12 @@ not_due_is script h due force e p d q =
 pub not_forced : (a b : Bool) → a ≡ false → (a && b) ≡ false
 not_forced a b e = ap (λ i. i && b) e
 
-pub not_due_steps : (link : Link) (due : Due) (force : Bool) (have : ℕ) → Holds link → slice_get link.script.controls link.done ≡ Some due → (is_stopping link.phase || is_leaving link.phase) ≡ false
+pub not_due_steps : (link : Link) (due : Due) (force : Bool) (have : ℕ) → Holds link → slice_get link.script.controls link.next_control ≡ Some due → (is_stopping link.phase || is_leaving link.phase) ≡ false
     → is_due link.script link.log.history due ≡ false → (force && quiet link.script link.log.history) ≡ false → have ≡ taken (past due.lane link.log.history)
     → Steps link link (control link.script link.log.history force) (Answer.NotDue have due.want)
 not_due_steps link due force have k e p d q n =
     same_steps link (control link.script link.log.history force) (Answer.NotDue have due.want)
-    (not_due_is link.script link.log.history due force (subst (λ i. slice_get link.script.controls i ≡ Some due) k.done_is e) (subst (λ i. (is_stopping i || is_leaving i) ≡ false) k.phase_is p) d q
+    (not_due_is link.script link.log.history due force (subst (λ i. slice_get link.script.controls i ≡ Some due) k.next_control_is e) (subst (λ i. (is_stopping i || is_leaving i) ≡ false) k.phase_is p) d q
     ∙ ap (λ i. Answers (Answer.NotDue i due.want)) (sym n))
 
 -- WHAT HINDERS A SUSPEND
@@ -110,13 +108,13 @@ module _ (link : Link) (k : Holds link) (due : Due) (forced : Bool) (head : slic
     (fits : control link.script link.log.history forced ≡ control_now link.script link.log.history due forced)
     (free : hinders due.control link.phase (past Outward link.log.history) (past Inward link.log.history) ≡ 0) where
   abbrev did : Entry
-  did = bare (Line.Control link.done forced)
+  did = bare (Line.Control link.next_control forced)
 
   abbrev lines : History
-  lines = order_lines due.control link.done link.phase (past Outward link.log.history) (past Inward link.log.history)
+  lines = order_lines due.control link.next_control link.phase (past Outward link.log.history) (past Inward link.log.history)
 
-  now : control_now link.script link.log.history due forced ≡ Writes (bare (Line.Control link.done forced) ∷ order_lines due.control link.done link.phase (past Outward link.log.history) (past Inward link.log.history))
-  now = now_step link.script link.log.history due forced link.phase link.done k.phase_is k.done_is free
+  now : control_now link.script link.log.history due forced ≡ Writes (bare (Line.Control link.next_control forced) ∷ order_lines due.control link.next_control link.phase (past Outward link.log.history) (past Inward link.log.history))
+  now = now_step link.script link.log.history due forced link.phase link.next_control k.phase_is k.next_control_is free
 
   all_lines : lines_in (control link.script link.log.history forced) ≡ did ∷ lines
   all_lines = ap lines_in (fits ∙ now)
@@ -127,15 +125,15 @@ module _ (link : Link) (k : Holds link) (due : Due) (forced : Bool) (head : slic
   pub did_room : 0 < link.log.spare_lines
   did_room = let l : suc (length lines) ≤ link.log.spare_lines = all_room.lines_fit in omega arith
 
-  module _ (log1 : Log) (history_is : log1.history ≡ link.log.history ++ bare (Line.Control link.done forced) ∷ []) (lines_left : log1.spare_lines + 1 ≡ link.log.spare_lines) (bytes_left : log1.spare_bytes + 0 ≡ link.log.spare_bytes) where
+  module _ (log1 : Log) (history_is : log1.history ≡ link.log.history ++ bare (Line.Control link.next_control forced) ∷ []) (lines_left : log1.spare_lines + 1 ≡ link.log.spare_lines) (bytes_left : log1.spare_bytes + 0 ≡ link.log.spare_bytes) where
     did_added : Adds link.log log1 (did ∷ [])
-    did_added = pushed link.log log1 (Line.Control link.done forced) history_is lines_left bytes_left
+    did_added = pushed link.log log1 (Line.Control link.next_control forced) history_is lines_left bytes_left
 
     same_past : (lane : Lane) → past lane log1.history ≡ past lane link.log.history
-    same_past lane = ap (past lane) history_is ∙ did_past lane link.log.history link.done forced
+    same_past lane = ap (past lane) history_is ∙ did_past lane link.log.history link.next_control forced
 
-    same_lines : order_lines due.control link.done link.phase (past Outward log1.history) (past Inward log1.history) ≡ lines
-    same_lines = ap (λ g. order_lines due.control link.done link.phase g (past Inward log1.history)) (same_past Outward) ∙ ap (order_lines due.control link.done link.phase (past Outward link.log.history)) (same_past Inward)
+    same_lines : order_lines due.control link.next_control link.phase (past Outward log1.history) (past Inward log1.history) ≡ lines
+    same_lines = ap (λ g. order_lines due.control link.next_control link.phase g (past Inward log1.history)) (same_past Outward) ∙ ap (order_lines due.control link.next_control link.phase (past Outward link.log.history)) (same_past Inward)
 
     pub did_keep : KeepBoth link.script link.phase link.out link.inward log1
     did_keep = record {
@@ -145,63 +143,63 @@ module _ (link : Link) (k : Holds link) (due : Due) (forced : Bool) (head : slic
       in_keeps = subst (Keeps link.script link.phase link.inward) (sym (same_past Inward)) k.in_keeps;
     }
 
-    pub order_room : HasRoom log1 (order_lines due.control link.done link.phase (past Outward log1.history) (past Inward log1.history))
+    pub order_room : HasRoom log1 (order_lines due.control link.next_control link.phase (past Outward log1.history) (past Inward log1.history))
     order_room = subst (HasRoom log1) (sym same_lines) (room_rest link.log log1 (did ∷ []) lines all_room did_added)
 
     pub order_free : hinders due.control link.phase (past Outward log1.history) (past Inward log1.history) ≡ 0
     order_free = subst (λ g. hinders due.control link.phase g (past Inward log1.history) ≡ 0) (sym (same_past Outward)) (subst (λ g. hinders due.control link.phase (past Outward link.log.history) g ≡ 0) (sym (same_past Inward)) free)
 
-    module _ (log2 : Log) (out' inward' : Way) (script' : Script) (same : script' ≡ link.script) (o : Obeys link.script due.control link.done link.phase link.out out' link.inward inward' log1 log2) where
+    module _ (log2 : Log) (out' inward' : Way) (script' : Script) (same : script' ≡ link.script) (o : Obeys link.script due.control link.next_control link.phase link.out out' link.inward inward' log1 log2) where
       added : Adds link.log log2 (did ∷ lines)
       added = adds_more link.log log1 log2 (did ∷ []) lines did_added (subst (Adds log1 log2) same_lines o.adds)
 
-      out_past : past Outward log2.history ≡ onto (order_part due.control Outward link.done link.phase (past Outward link.log.history)) (past Outward link.log.history)
-      out_past = ap (past Outward) added.history_is ∙ (past_onto Outward link.log.history (did ∷ lines) ∙ ap (λ ls. onto ls (past Outward link.log.history)) (order_filter due.control Outward link.done link.phase (past Outward link.log.history) (past Inward link.log.history)))
+      out_past : past Outward log2.history ≡ onto (order_part due.control Outward link.next_control link.phase (past Outward link.log.history)) (past Outward link.log.history)
+      out_past = ap (past Outward) added.history_is ∙ (past_onto Outward link.log.history (did ∷ lines) ∙ ap (λ ls. onto ls (past Outward link.log.history)) (order_filter due.control Outward link.next_control link.phase (past Outward link.log.history) (past Inward link.log.history)))
 
-      in_past : past Inward log2.history ≡ onto (order_part due.control Inward link.done link.phase (past Inward link.log.history)) (past Inward link.log.history)
-      in_past = ap (past Inward) added.history_is ∙ (past_onto Inward link.log.history (did ∷ lines) ∙ ap (λ ls. onto ls (past Inward link.log.history)) (order_filter due.control Inward link.done link.phase (past Outward link.log.history) (past Inward link.log.history)))
+      in_past : past Inward log2.history ≡ onto (order_part due.control Inward link.next_control link.phase (past Inward link.log.history)) (past Inward link.log.history)
+      in_past = ap (past Inward) added.history_is ∙ (past_onto Inward link.log.history (did ∷ lines) ∙ ap (λ ls. onto ls (past Inward link.log.history)) (order_filter due.control Inward link.next_control link.phase (past Outward link.log.history) (past Inward link.log.history)))
 
       phase_next : after_order due.control link.phase ≡ phase_of link.script log2.history
       phase_next = sym (
           ap (phase_of link.script) o.adds.history_is
-          ∙ (phase_kept link.script log1.history (order_lines due.control link.done link.phase (past Outward log1.history) (past Inward log1.history)) (order_still due.control link.done link.phase (past Outward log1.history) (past Inward log1.history))
+          ∙ (phase_kept link.script log1.history (order_lines due.control link.next_control link.phase (past Outward log1.history) (past Inward log1.history)) (order_still due.control link.next_control link.phase (past Outward log1.history) (past Inward log1.history))
           ∙ (ap (λ h. phase_after link.script.controls (reverse h)) history_is
           ∙ (ap (phase_after link.script.controls) (newest link.log.history did)
-          ∙ (ap (λ d. after_control d (phase_of link.script link.log.history)) (ap (slice_get link.script.controls) k.done_is ∙ head)
+          ∙ (ap (λ d. after_control d (phase_of link.script link.log.history)) (ap (slice_get link.script.controls) k.next_control_is ∙ head)
           ∙ ap (after_order due.control) (sym k.phase_is))))))
 
-      done_next : link.done + 1 ≡ controls_done (reverse log2.history)
+      done_next : link.next_control + 1 ≡ controls_done (reverse log2.history)
       done_next = sym (
           ap (λ h. controls_done (reverse h)) o.adds.history_is
-          ∙ (controls_kept log1.history (order_lines due.control link.done link.phase (past Outward log1.history) (past Inward log1.history)) (order_still due.control link.done link.phase (past Outward log1.history) (past Inward log1.history))
+          ∙ (controls_kept log1.history (order_lines due.control link.next_control link.phase (past Outward log1.history) (past Inward log1.history)) (order_still due.control link.next_control link.phase (past Outward log1.history) (past Inward log1.history))
           ∙ (ap (λ h. controls_done (reverse h)) history_is
-          ∙ (ap controls_done (newest link.log.history did) ∙ ap (λ n. n + 1) (sym k.done_is)))))
+          ∙ (ap controls_done (newest link.log.history did) ∙ ap (λ n. n + 1) (sym k.next_control_is)))))
 
-      pub order_holds : Holds (record link { script = script'; log = log2; out = out'; inward = inward'; phase = after_order due.control link.phase; done = link.done + 1 })
-      order_holds = subst (λ (x : Script). Holds (record link { script = x; log = log2; out = out'; inward = inward'; phase = after_order due.control link.phase; done = link.done + 1 })) (sym same) (record {
+      pub order_holds : Holds (record link { script = script'; log = log2; out = out'; inward = inward'; phase = after_order due.control link.phase; next_control = link.next_control + 1 })
+      order_holds = subst (λ (x : Script). Holds (record link { script = x; log = log2; out = out'; inward = inward'; phase = after_order due.control link.phase; next_control = link.next_control + 1 })) (sym same) (record {
         logged = act_logged link.script link.log log2 (Controls forced) k.logged (subst (Adds link.log log2) (sym all_lines) added);
         out_lane = o.keep.out_lane;
         in_lane = o.keep.in_lane;
         out_keeps = o.keep.out_keeps;
         in_keeps = o.keep.in_keeps;
-        out_read_is = read_same link.out_read (past Outward link.log.history) (past Outward log2.history) k.out_read_is (λ s. ap (λ g. consumed g s) out_past ∙ order_reads due.control Outward link.done link.phase (past Outward link.log.history) s);
-        in_read_is = read_same link.in_read (past Inward link.log.history) (past Inward log2.history) k.in_read_is (λ s. ap (λ g. consumed g s) in_past ∙ order_reads due.control Inward link.done link.phase (past Inward link.log.history) s);
+        out_read_is = read_same link.out_read (past Outward link.log.history) (past Outward log2.history) k.out_read_is (λ s. ap (λ g. consumed g s) out_past ∙ order_reads due.control Outward link.next_control link.phase (past Outward link.log.history) s);
+        in_read_is = read_same link.in_read (past Inward link.log.history) (past Inward log2.history) k.in_read_is (λ s. ap (λ g. consumed g s) in_past ∙ order_reads due.control Inward link.next_control link.phase (past Inward link.log.history) s);
         phase_is = phase_next;
-        done_is = done_next;
+        next_control_is = done_next;
       })
 
-      pub order_steps : Steps link (record link { script = script'; log = log2; out = out'; inward = inward'; phase = after_order due.control link.phase; done = link.done + 1 }) (control_now link.script link.log.history due forced) Answer.Did
+      pub order_steps : Steps link (record link { script = script'; log = log2; out = out'; inward = inward'; phase = after_order due.control link.phase; next_control = link.next_control + 1 }) (control_now link.script link.log.history due forced) Answer.Did
       order_steps = record {
         script_is = same;
         history_is = added.history_is ∙ ap (λ ls. link.log.history ++ ls) (sym (ap lines_in now));
         answers = sym (ap answer_in now);
         flights_are =
             ap (λ g. lane_flights Outward g out'.bus.flight ++ lane_flights Inward (past Inward log2.history) inward'.bus.flight) out_past
-            ∙ (ap (λ g. lane_flights Outward (onto (order_part due.control Outward link.done link.phase (past Outward link.log.history)) (past Outward link.log.history)) out'.bus.flight ++ lane_flights Inward g inward'.bus.flight) in_past
-            ∙ (ap (λ fs. fs ++ lane_flights Inward (onto (order_part due.control Inward link.done link.phase (past Inward link.log.history)) (past Inward link.log.history)) inward'.bus.flight)
-            (flight_kept Outward link.out (order_part due.control Outward link.done link.phase (past Outward link.log.history)) (past Outward link.log.history) out'.bus.flight k.out_keeps.stands o.out_flight (subst IsSound out_past o.keep.out_keeps.stands.sound))
+            ∙ (ap (λ g. lane_flights Outward (onto (order_part due.control Outward link.next_control link.phase (past Outward link.log.history)) (past Outward link.log.history)) out'.bus.flight ++ lane_flights Inward g inward'.bus.flight) in_past
+            ∙ (ap (λ fs. fs ++ lane_flights Inward (onto (order_part due.control Inward link.next_control link.phase (past Inward link.log.history)) (past Inward link.log.history)) inward'.bus.flight)
+            (flight_kept Outward link.out (order_part due.control Outward link.next_control link.phase (past Outward link.log.history)) (past Outward link.log.history) out'.bus.flight k.out_keeps.stands o.out_flight (subst IsSound out_past o.keep.out_keeps.stands.sound))
             ∙ ap (λ fs. lane_flights Outward (past Outward link.log.history) link.out.bus.flight ++ fs)
-            (flight_kept Inward link.inward (order_part due.control Inward link.done link.phase (past Inward link.log.history)) (past Inward link.log.history) inward'.bus.flight k.in_keeps.stands o.in_flight (subst IsSound in_past o.keep.in_keeps.stands.sound))));
+            (flight_kept Inward link.inward (order_part due.control Inward link.next_control link.phase (past Inward link.log.history)) (past Inward link.log.history) inward'.bus.flight k.in_keeps.stands o.in_flight (subst IsSound in_past o.keep.in_keeps.stands.sound))));
         unchanged = tt;
       }
 

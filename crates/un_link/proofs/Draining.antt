@@ -5,7 +5,7 @@ use Rattle.un_frame.specs.declared.params.Lane.{Lane}
 use Rattle.un_frame.specs.declared.params.Lane.TheVariants.{Outward, Inward}
 use Rattle.un_endpoint.specs.declared.record.FlightRecord.{FlightRecord}
 use Rattle.un_journal.specs.declared.actions.Action.{Action}
-use Rattle.un_journal.specs.declared.machine.Flight.{Flight}
+use Rattle.un_journal.specs.declared.machine.FlightKey.{FlightKey}
 use Rattle.un_journal.specs.Script.{Script}
 use Rattle.un_journal.specs.History.{History, past, made, flies, flying, given}
 use Rattle.un_journal.specs.Step.{step_of}
@@ -13,16 +13,9 @@ use Rattle.un_journal.specs.Done.{NoneFlies, IsFinished}
 use Rattle.un_journal.specs.Unplug.{AwaitsUnplug, IsPrefix, IsSettledAway}
 use Rattle.un_journal.specs.Drain.{run, round, drain, same_length, line_bound}
 use Rattle.un_journal.specs.Fits.{IsDone}
-use Rattle.un_journal.proofs.Status.{status_of, is_aloft}
-use Rattle.un_journal.proofs.Legal.{fresh}
-use Rattle.un_journal.proofs.Lists.{those_none}
-use Rattle.un_journal.proofs.Bound.{legal_bound}
-use Rattle.un_journal.proofs.Drained.{drain_done, drain_extends, run_extends, no_longer, step_idle}
-use Rattle.un_journal.proofs.Finished.{done_finished}
-use Rattle.un_journal.proofs.Closed.{cut_off, given_prefix}
-use Rattle.un_journal.proofs.Ranges.{have_pools}
+use Rattle.un_journal.proofs.ForLink.{status_of, is_aloft, fresh, those_none, drain_extends, run_extends, no_longer, step_idle, drain_after_round, drain_after_control, drain_at_end}
+use Rattle.un_journal.proofs.Theorems.{legal_bound, drain_done, done_finished, cut_off, given_prefix, have_pools}
 use Rattle.un_frame.specs.Params.{AreInRange}
-use Rattle.un_journal.proofs.LinkFacts.{drain_after_round, drain_after_control, drain_at_end}
 use Rattle.un_lane.specs.Way.{Way}
 use Rattle.un_lane.specs.Stands.{Stands, flight_serial}
 use Rattle.un_link.specs.Link.{Link, Holds, flights_of, lane_flights}
@@ -131,21 +124,21 @@ none_of : (lane : Lane) (g : History) (o : Option FlightRecord) → lane_flights
 none_of lane g None e = refl
 none_of lane g (Some f) e = absurd (cc)
 
-no_front : (xs ys : List Flight) → xs ++ ys ≡ [] → xs ≡ []
+no_front : (xs ys : List FlightKey) → xs ++ ys ≡ [] → xs ≡ []
 no_front [] ys e = refl
 no_front (x ∷ xs) ys e = absurd (cc)
 
-no_back : (xs ys : List Flight) → xs ++ ys ≡ [] → ys ≡ []
+no_back : (xs ys : List FlightKey) → xs ++ ys ≡ [] → ys ≡ []
 no_back [] ys e = e
 no_back (x ∷ xs) ys e = absurd (cc)
 
 pub none_flies : (link : Link) → Holds link → flights_of link ≡ [] → NoneFlies link.log.history
 none_flies link k e = go
   where
-    out : List Flight
+    out : List FlightKey
     out = lane_flights Outward (past Outward link.log.history) link.out.bus.flight
 
-    inward : List Flight
+    inward : List FlightKey
     inward = lane_flights Inward (past Inward link.log.history) link.inward.bus.flight
 
     go : (lane : Lane) (j : ℕ) → flies (past lane link.log.history) j ≡ false

@@ -7,7 +7,7 @@ use Rattle.un_frame.specs.declared.params.Lane.{Lane}
 use Rattle.un_frame.specs.declared.params.Lane.TheVariants.{Outward, Inward}
 use Rattle.un_frame.specs.Lanes.{same_lane}
 use Rattle.un_endpoint.specs.declared.record.FlightRecord.{FlightRecord}
-use Rattle.un_journal.specs.declared.machine.Flight.{Flight}
+use Rattle.un_journal.specs.declared.machine.FlightKey.{FlightKey}
 use Rattle.un_journal.specs.declared.actions.Answer.{Answer}
 use Rattle.un_journal.specs.declared.got.Got.{Got}
 use Rattle.un_journal.specs.declared.got.Got.TheVariants.{Part, Cut, Not}
@@ -18,7 +18,7 @@ use Rattle.un_journal.specs.declared.actions.Action.{Action}
 use Rattle.un_journal.specs.declared.lines.Line.TheVariants.{Flying, Cut as CutLine}
 use Rattle.un_journal.specs.LaneSteps.{Answers, lines_in, bare}
 use Rattle.un_journal.specs.Step.{Work, work, land_from, move_after, outcome, quiet}
-use Rattle.un_journal.proofs.Flights.{same_flight-is, same_flight-refl}
+use Rattle.un_journal.proofs.Theorems.{same_flight-is, same_flight-refl}
 use Rattle.un_lane.specs.Stands.{flight_serial}
 use Rattle.un_lane.specs.Answered.{UnlessDid}
 use Rattle.un_link.specs.declared.half.Half.{Half}
@@ -59,16 +59,16 @@ half_lands Inward link shared' half' k t =
 
 -- HOW OFTEN A FLIGHT IS OUT
 
-times_append : (x : Flight) (xs ys : List Flight) → times x (xs ++ ys) ≡ times x xs + times x ys
+times_append : (x : FlightKey) (xs ys : List FlightKey) → times x (xs ++ ys) ≡ times x xs + times x ys
 times_append x [] ys = omega arith
 times_append x (y ∷ xs) ys = let w : times x (xs ++ ys) ≡ times x xs + times x ys = times_append x xs ys in omega arith
 
 -- those of one lane and those of the other
-both : (x : Flight) (lane : Lane) (link : Link) → times x (flights_of link) ≡ times x (flights_in lane link) + times x (flights_in (across lane) link)
+both : (x : FlightKey) (lane : Lane) (link : Link) → times x (flights_of link) ≡ times x (flights_in lane link) + times x (flights_in (across lane) link)
 both x Outward link = times_append x (flights_in Outward link) (flights_in Inward link)
 both x Inward link = let w : times x (flights_of link) ≡ times x (flights_in Outward link) + times x (flights_in Inward link) = times_append x (flights_in Outward link) (flights_in Inward link) in omega arith
 
-elsewhere : (x : Flight) (lane : Lane) (g : History) (o : Option FlightRecord) → same_lane x.transfer.lane lane ≡ false → times x (lane_flights lane g o) ≡ 0
+elsewhere : (x : FlightKey) (lane : Lane) (g : History) (o : Option FlightRecord) → same_lane x.transfer.lane lane ≡ false → times x (lane_flights lane g o) ≡ 0
 elsewhere x lane g None e = refl
 elsewhere x lane g (Some f) e = rw e refl
 
@@ -77,11 +77,11 @@ apart Outward = refl
 apart Inward = refl
 
 -- a flight of one lane isn't one of the other's
-never_across : (x : Flight) (lane : Lane) (link : Link) → x.transfer.lane ≡ lane → times x (flights_in (across lane) link) ≡ 0
+never_across : (x : FlightKey) (lane : Lane) (link : Link) → x.transfer.lane ≡ lane → times x (flights_in (across lane) link) ≡ 0
 never_across x Outward link e = elsewhere x Inward (past Inward link.log.history) link.inward.bus.flight (ap (λ l. same_lane l Inward) e)
 never_across x Inward link e = elsewhere x Outward (past Outward link.log.history) link.out.bus.flight (ap (λ l. same_lane l Outward) e)
 
-only : (x : Flight) (lane : Lane) (g : History) (o : Option FlightRecord) → 0 < times x (lane_flights lane g o) → lane_flights lane g o ≡ x ∷ []
+only : (x : FlightKey) (lane : Lane) (g : History) (o : Option FlightRecord) → 0 < times x (lane_flights lane g o) → lane_flights lane g o ≡ x ∷ []
 only x lane g None e = absurd (omega (arith, e))
 only x lane g (Some f) e = go (same_flight x (flight_in lane g f)) refl
   where
@@ -89,19 +89,19 @@ only x lane g (Some f) e = go (same_flight x (flight_in lane g f)) refl
     go true q = ap (λ y. y ∷ []) (sym (same_flight-is x (flight_in lane g f) q))
     go false q = absurd (omega (arith, e, ap one_if q))
 
-only_in : (x : Flight) (lane : Lane) (link : Link) → 0 < times x (flights_in lane link) → flights_in lane link ≡ x ∷ []
+only_in : (x : FlightKey) (lane : Lane) (link : Link) → 0 < times x (flights_in lane link) → flights_in lane link ≡ x ∷ []
 only_in x Outward link e = only x Outward (past Outward link.log.history) link.out.bus.flight e
 only_in x Inward link e = only x Inward (past Inward link.log.history) link.inward.bus.flight e
 
 -- a flight that is out is its lane's only one
-pub is_only : (x : Flight) (lane : Lane) (link : Link) → x.transfer.lane ≡ lane → 0 < times x (flights_of link) → flights_in lane link ≡ x ∷ []
+pub is_only : (x : FlightKey) (lane : Lane) (link : Link) → x.transfer.lane ≡ lane → 0 < times x (flights_of link) → flights_in lane link ≡ x ∷ []
 is_only x lane link e out =
     let b : times x (flights_of link) ≡ times x (flights_in lane link) + times x (flights_in (across lane) link) = both x lane link in
     let n : times x (flights_in (across lane) link) ≡ 0 = never_across x lane link e in
     only_in x lane link (omega arith)
 
 -- and a lane's flight is out
-pub is_out : (x : Flight) (lane : Lane) (link : Link) → flights_in lane link ≡ x ∷ [] → 0 < times x (flights_of link)
+pub is_out : (x : FlightKey) (lane : Lane) (link : Link) → flights_in lane link ≡ x ∷ [] → 0 < times x (flights_of link)
 is_out x lane link e =
     let b : times x (flights_of link) ≡ times x (flights_in lane link) + times x (flights_in (across lane) link) = both x lane link in
     let o : times x (flights_in lane link) ≡ times x (x ∷ []) = ap (times x) e in
@@ -114,11 +114,11 @@ same_flights Inward old new a b = ap (λ xs. xs ++ flights_in Inward new) b ∙ 
 
 -- WHAT A CALL SAYS
 
-gains : (x : Flight) (lane : Lane) (old new : Link) → x.transfer.lane ≡ lane → flights_in lane old ≡ [] → flights_in lane new ≡ x ∷ [] → flights_in (across lane) new ≡ flights_in (across lane) old
+gains : (x : FlightKey) (lane : Lane) (old new : Link) → x.transfer.lane ≡ lane → flights_in lane old ≡ [] → flights_in lane new ≡ x ∷ [] → flights_in (across lane) new ≡ flights_in (across lane) old
     → Gains x (flights_of old) (flights_of new)
 gains x lane old new at none one others = (more, before)
   where
-    more : (y : Flight) → times y (flights_of new) ≡ times y (flights_of old) + times y (x ∷ [])
+    more : (y : FlightKey) → times y (flights_of new) ≡ times y (flights_of old) + times y (x ∷ [])
     more y =
         let a : times y (flights_of new) ≡ times y (flights_in lane new) + times y (flights_in (across lane) new) = both y lane new in
         let b : times y (flights_of old) ≡ times y (flights_in lane old) + times y (flights_in (across lane) old) = both y lane old in
@@ -139,7 +139,7 @@ takes lane old new (Part f) t = (t.came.names, gains (flight_of f) lane old new 
 takes lane old new Cut t = (ap (got_outcome lane (past lane old.log.history)) t.came.writes.2, same_flights lane old new (t.came.none_is ∙ sym t.came.none_was) t.others)
 takes lane old new (Not answer) t = (ap (got_outcome lane (past lane old.log.history)) t.came.0, same_flights lane old new t.came.1 t.others)
 
-pub loses : (x : Flight) (lane : Lane) (old new : Link) → flights_in lane old ≡ x ∷ [] → LandsIn lane old new → Loses x (flights_of old) (flights_of new)
+pub loses : (x : FlightKey) (lane : Lane) (old new : Link) → flights_in lane old ≡ x ∷ [] → LandsIn lane old new → Loses x (flights_of old) (flights_of new)
 loses x lane old new one t y =
     let a : times y (flights_of new) ≡ times y (flights_in lane new) + times y (flights_in (across lane) new) = both y lane new in
     let b : times y (flights_of old) ≡ times y (flights_in lane old) + times y (flights_in (across lane) old) = both y lane old in

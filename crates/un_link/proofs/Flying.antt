@@ -7,7 +7,7 @@ use Rattle.un_endpoint.specs.declared.record.FlightRecord.{FlightRecord}
 use Rattle.un_journal.specs.declared.lines.Line.TheVariants.{Made}
 use Rattle.un_journal.specs.History.{Entry, History, made, made_bytes, flies}
 use Rattle.un_journal.specs.Sound.{IsSound}
-use Rattle.un_journal.proofs.Onto.{onto, sound_below}
+use Rattle.un_journal.proofs.ForLink.{onto, sound_below}
 use Rattle.un_lane.specs.Way.{Way}
 use Rattle.un_lane.specs.Stands.{Stands, flight_serial}
 use Rattle.un_lane.proofs.Making.{those_below}

@@ -9,14 +9,12 @@ use Rattle.un_journal.specs.Script.{Script, Frame}
 use Rattle.un_journal.specs.History.{Entry, History, past, concerns, cover, consumed}
 use Rattle.un_journal.specs.declared.lines.Line.TheVariants.{Made, Dropped}
 use Rattle.un_journal.specs.Sound.{IsSound}
-use Rattle.un_journal.proofs.Onto.{onto, sound_below}
+use Rattle.un_journal.proofs.ForLink.{onto, sound_below, own_past, lane_of}
 use Rattle.un_journal.specs.Lookup.{built_frames, datagrams}
 use Rattle.un_journal.specs.LaneSteps.{Outcome, Writes, Answers, lines_in}
 use Rattle.un_journal.specs.Step.{Work, work}
 use Rattle.un_journal.specs.Fits.{Works, Fits, takes, refuses, waits_once, closes, begins_flight, cuts_queued, lands, fails, cuts_flight, comes_home, opens, gives, posts_one, marks, recalls_one, clears, settles}
-use Rattle.un_journal.proofs.Steps.{own_past}
-use Rattle.un_journal.proofs.LaneFacts.{lane_of}
-use Rattle.un_journal.proofs.Complete.{outcome_fits}
+use Rattle.un_journal.proofs.Theorems.{outcome_fits}
 use Rattle.un_link.specs.declared.cursors.Cursors.{Cursors}
 use Rattle.un_link.specs.Keeps.{AreRead}
 

@@ -38,9 +38,9 @@ pub made_holds : (script : Script) (out inward : Way) (shared : Shared) (read re
     → IsReady script → Agree script.params
     → AreFresh Outward a b n m → AreFresh Inward c d i j → a.params ≡ script.params → c.params ≡ script.params
     → Stands out [] → out.lane ≡ Outward → out.tx ≡ a → Stands inward [] → inward.lane ≡ Inward → inward.tx ≡ c
-    → shared ≡ record { script = script; journal = record { history = []; spare_lines = line_bound script; spare_bytes = byte_bound script }; phase = Up; done = 0 }
+    → shared ≡ record { script = script; journal = record { history = []; spare_lines = line_bound script; spare_bytes = byte_bound script }; phase = Up; next_control = 0 }
     → read ≡ record { first = 0; second = 0; third = 0; fourth = 0 } → read' ≡ record { first = 0; second = 0; third = 0; fourth = 0 }
-    → Holds (record { script = shared.script; log = shared.journal; out = out; inward = inward; out_read = read; in_read = read'; phase = shared.phase; done = shared.done })
+    → Holds (record { script = shared.script; log = shared.journal; out = out; inward = inward; out_read = read; in_read = read'; phase = shared.phase; next_control = shared.next_control })
 made_holds script out inward shared read read' a c b d n m i j ready agree fo fi po pi so lo to si li ti e ro ri =
     rw (e, ro, ri)
     (record {
@@ -52,5 +52,5 @@ made_holds script out inward shared read read' a c b d n m i j ready agree fo fi
       out_read_is = record { first = refl; second = refl; third = refl; fourth = refl };
       in_read_is = record { first = refl; second = refl; third = refl; fourth = refl };
       phase_is = refl;
-      done_is = refl;
+      next_control_is = refl;
     })

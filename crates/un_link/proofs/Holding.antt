@@ -17,10 +17,8 @@ use Rattle.un_journal.specs.Step.{Work, work}
 use Rattle.un_journal.specs.Drain.{line_bound}
 use Rattle.un_journal.specs.Fits.{Act, Works, Legal, act_outcome}
 use Rattle.un_journal.specs.Sound.{IsSound}
-use Rattle.un_journal.proofs.Going.{legal_act}
-use Rattle.un_journal.proofs.Onto.{onto}
-use Rattle.un_journal.proofs.LaneFacts.{lane_of, work_own, past_own, past_other, phase_kept, controls_kept}
-use Rattle.un_journal.proofs.LinkFacts.{act_has_room, act_has_byte_room, bytes_append}
+use Rattle.un_journal.proofs.Theorems.{legal_act}
+use Rattle.un_journal.proofs.ForLink.{onto, lane_of, work_own, past_own, past_other, phase_kept, controls_kept, act_has_room, act_has_byte_room, bytes_append}
 use Rattle.un_lane.specs.Way.{HasRoom, Adds}
 use Rattle.un_lane.specs.Stands.{Stands}
 use Rattle.un_lane.specs.Answered.{UnlessTaken}
@@ -71,7 +69,7 @@ pub record IsWorked (script : Script) (lane : Lane) (h h' lines : History) : Typ
   pub own : past lane h' ≡ onto lines (past lane h)
   pub other : (l : Lane) → same_lane l lane ≡ false → past l h' ≡ past l h
   pub phase_is : phase_of script h' ≡ phase_of script h
-  pub done_is : controls_done (reverse h') ≡ controls_done (reverse h)
+  pub next_control_is : controls_done (reverse h') ≡ controls_done (reverse h)
 
 pub is_worked : (script : Script) (lane : Lane) (w : Work) (h h' : History) → lane_of w ≡ Some lane → h' ≡ h ++ lines_in (work script h w) → IsWorked script lane h h' (lines_in (work script h w))
 is_worked script lane w h h' of e =
@@ -80,13 +78,13 @@ is_worked script lane w h h' of e =
       own = ap (past lane) e ∙ past_own lane h (lines_in (work script h w)) o.own;
       other = λ l apart. ap (past l) e ∙ past_other lane l h (lines_in (work script h w)) o.own apart;
       phase_is = ap (phase_of script) e ∙ phase_kept script h (lines_in (work script h w)) o.still;
-      done_is = ap (λ i. controls_done (reverse i)) e ∙ controls_kept h (lines_in (work script h w)) o.still;
+      next_control_is = ap (λ i. controls_done (reverse i)) e ∙ controls_kept h (lines_in (work script h w)) o.still;
     }
 
 -- A LINK'S HALVES
 
 abbrev pub shared_of : Link → Shared
-shared_of link = record { script = link.script; journal = link.log; phase = link.phase; done = link.done }
+shared_of link = record { script = link.script; journal = link.log; phase = link.phase; next_control = link.next_control }
 
 abbrev pub half_of : {T R : Type 0} → Lane → Link → Half T R
 half_of Outward link = record { path = link.out; read = link.out_read }
@@ -94,8 +92,8 @@ half_of Inward link = record { path = link.inward; read = link.in_read }
 
 -- the link with what is shared and one half as they are afterwards
 abbrev pub with_half : {T R : Type 0} → Lane → Link → Shared → Half T R → Link
-with_half Outward link s half = record { script = s.script; log = s.journal; out = half.path; inward = link.inward; out_read = half.read; in_read = link.in_read; phase = s.phase; done = s.done }
-with_half Inward link s half = record { script = s.script; log = s.journal; out = link.out; inward = half.path; out_read = link.out_read; in_read = half.read; phase = s.phase; done = s.done }
+with_half Outward link s half = record { script = s.script; log = s.journal; out = half.path; inward = link.inward; out_read = half.read; in_read = link.in_read; phase = s.phase; next_control = s.next_control }
+with_half Inward link s half = record { script = s.script; log = s.journal; out = link.out; inward = half.path; out_read = link.out_read; in_read = half.read; phase = s.phase; next_control = s.next_control }
 
 pub half_kept : {T R : Type 0} (lane : Lane) (link : Link) → Holds link → HalfKeeps {T = T} {R = R} (shared_of link) (half_of lane link)
 half_kept Outward link k = record {
@@ -103,14 +101,14 @@ half_kept Outward link k = record {
   keeps = subst (λ l. Keeps link.script link.phase link.out (past l link.log.history)) (sym k.out_lane) k.out_keeps;
   read_is = subst (λ l. AreRead link.out_read (past l link.log.history)) (sym k.out_lane) k.out_read_is;
   phase_is = k.phase_is;
-  done_is = k.done_is;
+  next_control_is = k.next_control_is;
 }
 half_kept Inward link k = record {
   in_range = k.logged.in_range;
   keeps = subst (λ l. Keeps link.script link.phase link.inward (past l link.log.history)) (sym k.in_lane) k.in_keeps;
   read_is = subst (λ l. AreRead link.in_read (past l link.log.history)) (sym k.in_lane) k.in_read_is;
   phase_is = k.phase_is;
-  done_is = k.done_is;
+  next_control_is = k.next_control_is;
 }
 
 pub half_ready : {T R : Type 0} (lane : Lane) (link : Link) (w : Work) → Holds link → Ready {T = T} {R = R} w (shared_of link) (half_of lane link)
@@ -131,7 +129,7 @@ half_holds Outward link w shared' half' k of d =
       out_read_is = subst (λ l. AreRead half'.read (past l shared'.journal.history)) k.out_lane d.read_is;
       in_read_is = subst (AreRead link.in_read) (sym (x.other Inward refl)) k.in_read_is;
       phase_is = k.phase_is ∙ sym x.phase_is;
-      done_is = k.done_is ∙ sym x.done_is;
+      next_control_is = k.next_control_is ∙ sym x.next_control_is;
     })
 half_holds Inward link w shared' half' k of d =
     let x = is_worked link.script Inward w link.log.history shared'.journal.history of d.adds.history_is in
@@ -145,14 +143,14 @@ half_holds Inward link w shared' half' k of d =
       out_read_is = subst (AreRead link.out_read) (sym (x.other Outward refl)) k.out_read_is;
       in_read_is = subst (λ l. AreRead half'.read (past l shared'.journal.history)) k.in_lane d.read_is;
       phase_is = k.phase_is ∙ sym x.phase_is;
-      done_is = k.done_is ∙ sym x.done_is;
+      next_control_is = k.next_control_is ∙ sym x.next_control_is;
     })
 
 -- WHAT A CALL SAYS
 
 same_half : {T R : Type 0} (lane : Lane) (link : Link) (shared' : Shared) (half' : Half T R) → (half' ≡ half_of lane link) × (shared' ≡ shared_of link) → with_half lane link shared' half' ≡ link
-same_half Outward link shared' half' same = ap (λ h. with_half Outward link shared' h) same.0 ∙ ap (λ (s : Shared). record { script = s.script; log = s.journal; out = link.out; inward = link.inward; out_read = link.out_read; in_read = link.in_read; phase = s.phase; done = s.done }) same.1
-same_half Inward link shared' half' same = ap (λ h. with_half Inward link shared' h) same.0 ∙ ap (λ (s : Shared). record { script = s.script; log = s.journal; out = link.out; inward = link.inward; out_read = link.out_read; in_read = link.in_read; phase = s.phase; done = s.done }) same.1
+same_half Outward link shared' half' same = ap (λ h. with_half Outward link shared' h) same.0 ∙ ap (λ (s : Shared). record { script = s.script; log = s.journal; out = link.out; inward = link.inward; out_read = link.out_read; in_read = link.in_read; phase = s.phase; next_control = s.next_control }) same.1
+same_half Inward link shared' half' same = ap (λ h. with_half Inward link shared' h) same.0 ∙ ap (λ (s : Shared). record { script = s.script; log = s.journal; out = link.out; inward = link.inward; out_read = link.out_read; in_read = link.in_read; phase = s.phase; next_control = s.next_control }) same.1
 
 -- a take that is refused
 pub half_refused : {T R : Type 0} (lane : Lane) (link : Link) (shared' : Shared) (half' : Half T R) (got : Got LaneTrip) → UnlessTaken got ((half' ≡ half_of lane link) × (shared' ≡ shared_of link)) → UnlessTaken got (with_half lane link shared' half' ≡ link)

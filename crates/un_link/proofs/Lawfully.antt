@@ -4,12 +4,7 @@ use Rattle.un_frame.specs.Params.{AreInRange, Agree}
 use Rattle.un_journal.specs.Script.{Script}
 use Rattle.un_journal.specs.History.{History, past}
 use Rattle.un_journal.specs.Fits.{Legal}
-use Rattle.un_journal.proofs.OnePlace.{partition}
-use Rattle.un_journal.proofs.Steps.{legal_good}
-use Rattle.un_journal.proofs.Given.{given_rises, given_taken}
-use Rattle.un_journal.proofs.Formed.{legal_formed}
-use Rattle.un_journal.proofs.Ranges.{wire_holds}
-use Rattle.un_journal.proofs.Spelled.{licensed_at, settled_at}
+use Rattle.un_journal.proofs.Theorems.{partition, legal_good, given_rises, given_taken, legal_formed, wire_holds, licensed_at, settled_at}
 use Rattle.un_link.specs.Lawful.{IsLawful, AtEveryMoment}
 
 lawful : (script : Script) (h : History) → AreInRange script.params → Agree script.params → Legal script h → IsLawful script h

@@ -25,11 +25,7 @@ use Rattle.un_journal.specs.Lookup.{tx_home, offer_needs_home, is_asleep, works,
 use Rattle.un_journal.specs.LaneSteps.{Outcome, Writes, Answers, lines_in, answer_in, bare, accept, made_lines}
 use Rattle.un_journal.specs.Step.{Work, work, judge, offer_head, is_still, step_of}
 use Rattle.un_journal.specs.Sound.{IsSound}
-use Rattle.un_journal.proofs.Formed.{count_datagrams}
-use Rattle.un_journal.proofs.LinkFacts.{past_short}
-use Rattle.un_journal.proofs.LaneFacts.{work_own, past_own}
-use Rattle.un_journal.proofs.Onto.{onto}
-use Rattle.un_journal.proofs.Steps.{own_past}
+use Rattle.un_journal.proofs.ForLink.{count_datagrams, past_short, work_own, past_own, onto, own_past}
 use Rattle.un_lane.specs.Way.{Way, HasRoom, Adds}
 use Rattle.un_lane.specs.Answered.{UnlessDid, IsUnchanged}
 use Rattle.un_lane.specs.Stands.{Stands}

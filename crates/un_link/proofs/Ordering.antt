@@ -13,9 +13,7 @@ use Rattle.un_journal.specs.History.{History, past, taken, cover, flying, posted
 use Rattle.un_journal.specs.Log.{Log}
 use Rattle.un_journal.specs.Lookup.{is_asleep, datagrams, built_frames, deferred, queued, unmarked}
 use Rattle.un_journal.specs.Step.{order_lines, hinders, marked_each, cut_each, recalled_each, dropped_built}
-use Rattle.un_journal.proofs.Onto.{onto}
-use Rattle.un_journal.proofs.Formed.{count_datagrams}
-use Rattle.un_journal.proofs.Rules.{onto_marked, onto_recalled}
+use Rattle.un_journal.proofs.ForLink.{onto, count_datagrams, onto_marked, onto_recalled}
 use Rattle.un_lane.specs.Way.{Way, HasRoom, Adds}
 use Rattle.un_lane.specs.Phases.{Agrees, IsDropped, Leaves, defers}
 use Rattle.un_lane.specs.Controls.{Stays, unmarked_in, unmarked_lines, deferred_lines, posted_lines, dropped_lines, resumed}

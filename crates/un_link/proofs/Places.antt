@@ -15,10 +15,8 @@ use Rattle.un_journal.specs.History.{Entry, History, past, concerns, gave, taken
 use Rattle.un_journal.specs.Lookup.{phase_of}
 use Rattle.un_journal.specs.Census.{census, total, nowhere, NamesPlace}
 use Rattle.un_journal.specs.Fits.{Legal}
-use Rattle.un_journal.proofs.Counts.{adds_up, names_place, is_nowhere}
-use Rattle.un_journal.proofs.Onto.{onto, past_onto}
-use Rattle.un_journal.proofs.Steps.{legal_good, own_past}
-use Rattle.un_journal.proofs.Lists.{past_more}
+use Rattle.un_journal.proofs.Theorems.{adds_up, names_place, is_nowhere, legal_good}
+use Rattle.un_journal.proofs.ForLink.{onto, past_onto, own_past, past_more}
 use Rattle.un_link.specs.Counts.{gives, in_path}
 
 -- A GAVE LINE

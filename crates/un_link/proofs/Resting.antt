@@ -13,11 +13,8 @@ use Rattle.un_journal.specs.LaneSteps.{Writes, Answers}
 use Rattle.un_journal.specs.Step.{Work, work, is_still, away, all_home, settled_line, quiet, offers_still}
 use Rattle.un_journal.specs.Fits.{Legal, IsDone}
 use Rattle.un_journal.specs.Done.{IsFinished}
-use Rattle.un_journal.proofs.Finished.{done_finished}
-use Rattle.un_journal.proofs.Ranges.{have_pools}
-use Rattle.un_journal.proofs.Homes.{away_some, away_none}
-use Rattle.un_journal.proofs.Closed.{quiet_done}
-use Rattle.un_journal.proofs.LinkFacts.{lane_still, quiet_parts}
+use Rattle.un_journal.proofs.Theorems.{done_finished, have_pools, away_some, away_none, quiet_done}
+use Rattle.un_journal.proofs.ForLink.{lane_still, quiet_parts}
 use Rattle.un_lane.specs.Way.{Way}
 use Rattle.un_lane.specs.Still.{is_lane_still}
 use Rattle.un_lane.specs.Stands.{Stands}
@@ -88,11 +85,11 @@ quiet_tells link out inward offers settles k o i f s =
     (tells_lane link.script link.log.history link.phase Outward link.out out k.phase_is k.out_lane k.out_keeps o)
     (tells_lane link.script link.log.history link.phase Inward link.inward inward k.phase_is k.in_lane k.in_keeps i) f s
 
-pub finished_is : (link : Link) (n : ℕ) → Holds link → n ≡ length link.script.controls → quiet link.script link.log.history ≡ true → (link.done == n) ≡ true → IsDone link.script link.log.history
+pub finished_is : (link : Link) (n : ℕ) → Holds link → n ≡ length link.script.controls → quiet link.script link.log.history ≡ true → (link.next_control == n) ≡ true → IsDone link.script link.log.history
 finished_is link n k c q e =
     finished_done link.script link.log.history k.logged.legal
-    (ap (λ b. b && controls_done (reverse link.log.history) == length link.script.controls) q ∙ (ap (λ m. m == length link.script.controls) (sym k.done_is) ∙ (ap (λ m. link.done == m) (sym c) ∙ e)))
+    (ap (λ b. b && controls_done (reverse link.log.history) == length link.script.controls) q ∙ (ap (λ m. m == length link.script.controls) (sym k.next_control_is) ∙ (ap (λ m. link.next_control == m) (sym c) ∙ e)))
 
 -- and what it means to be done
-pub finished_says : (link : Link) (n : ℕ) → Holds link → n ≡ length link.script.controls → quiet link.script link.log.history ≡ true → (link.done == n) ≡ true → IsFinished link.script link.log.history
+pub finished_says : (link : Link) (n : ℕ) → Holds link → n ≡ length link.script.controls → quiet link.script link.log.history ≡ true → (link.next_control == n) ≡ true → IsFinished link.script link.log.history
 finished_says link n k c q e = done_finished link.script link.log.history (have_pools link.script.params k.logged.in_range) (finished_is link n k c q e)

@@ -9,7 +9,7 @@ use Rattle.un_frame.specs.declared.params.Lane.TheVariants.{Outward, Inward}
 use Rattle.un_journal.specs.Script.{Script, Frame, Feeds, frames_of, feed_list, frames_in_all, frame_count}
 use Rattle.un_journal.specs.Bytes.{frame_room}
 use Rattle.un_journal.specs.Drain.{line_bound}
-use Rattle.un_journal.proofs.NoLoss.{take_one}
+use Rattle.un_journal.proofs.ForLink.{take_one}
 use Rattle.un_script.specs.Ready.{IsReady}
 
 -- one frame more of a feed

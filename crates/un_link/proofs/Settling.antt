@@ -15,7 +15,7 @@ use Rattle.un_journal.specs.Lookup.{phase_after, after_settled, controls_done, i
 use Rattle.un_journal.specs.LaneSteps.{Writes, lines_in, answer_in, bare}
 use Rattle.un_journal.specs.Step.{Work, settle, settled_line, all_home}
 use Rattle.un_journal.specs.Fits.{Works}
-use Rattle.un_journal.proofs.Onto.{newest, past_onto}
+use Rattle.un_journal.proofs.ForLink.{newest, past_onto}
 use Rattle.un_lane.specs.Way.{Way, HasRoom, Adds}
 use Rattle.un_lane.specs.Phases.{Agrees}
 use Rattle.un_lane.specs.Controls.{settled}
@@ -151,7 +151,7 @@ module _ (link : Link) (k : Holds link) (fits : settle link.script link.log.hist
       out_read_is = subst (AreRead link.out_read) (sym (new_past Outward)) (record { first = k.out_read_is.first; second = k.out_read_is.second; third = k.out_read_is.third; fourth = k.out_read_is.fourth });
       in_read_is = subst (AreRead link.in_read) (sym (new_past Inward)) (record { first = k.in_read_is.first; second = k.in_read_is.second; third = k.in_read_is.third; fourth = k.in_read_is.fourth });
       phase_is = sym (ap (λ h. phase_after link.script.controls (reverse h)) history_is ∙ (ap (phase_after link.script.controls) (newest link.log.history (bare (Settled a b c d))) ∙ ap after_settled (sym k.phase_is)));
-      done_is = sym (ap (λ h. controls_done (reverse h)) history_is ∙ (ap controls_done (newest link.log.history (bare (Settled a b c d))) ∙ sym k.done_is));
+      next_control_is = sym (ap (λ h. controls_done (reverse h)) history_is ∙ (ap controls_done (newest link.log.history (bare (Settled a b c d))) ∙ sym k.next_control_is));
     }
 
     pub settle_steps : Steps link (record link { log = log1; out = out'; inward = inward'; phase = after_settled link.phase }) (settle link.script link.log.history) Answer.Did

@@ -5,7 +5,7 @@ use Rattle.un_frame.specs.declared.kinds.Phase.{Phase}
 use Rattle.un_endpoint.specs.declared.record.FlightRecord.{FlightRecord}
 use Rattle.un_endpoint.specs.Bus.{Trip, record_of}
 use Rattle.un_journal.specs.declared.actions.Answer.{Answer}
-use Rattle.un_journal.specs.declared.machine.Flight.{Flight}
+use Rattle.un_journal.specs.declared.machine.FlightKey.{FlightKey}
 use Rattle.un_journal.specs.declared.got.Got.TheVariants.{Part, Cut, Not}
 use Rattle.un_journal.specs.declared.lines.Line.TheVariants.{Flying, Cut as CutLine}
 use Rattle.un_journal.specs.Script.{Script, planned}
@@ -14,7 +14,7 @@ use Rattle.un_journal.specs.Log.{Log}
 use Rattle.un_journal.specs.Lookup.{is_asleep, phase_of, queued}
 use Rattle.un_journal.specs.LaneSteps.{Writes, lines_in, bare, take_with, take_queued, land_with, land_fault}
 use Rattle.un_journal.specs.Step.{Work, work, land_from}
-use Rattle.un_journal.proofs.Onto.{onto}
+use Rattle.un_journal.proofs.ForLink.{onto}
 use Rattle.un_lane.specs.Way.{Way}
 use Rattle.un_lane.specs.Stands.{flight_serial, serial_of}
 use Rattle.un_lane.specs.Answered.{Answered, IsUnchanged}
@@ -39,7 +39,7 @@ none_out lane g (Some f) e = absurd (cc)
 pub out_is : (lane : Lane) (g : History) (f : LaneTrip) → f.lane ≡ lane → made_bytes g f.trip.tx.serial ≡ f.trip.tx.bytes → lane_flights lane g (Some (record_of f.trip)) ≡ flight_of f ∷ []
 out_is lane g f l b = rw (← l, b) refl
 
-abbrev record_in : Flight → FlightRecord
+abbrev record_in : FlightKey → FlightRecord
 record_in f = record {
   serial = f.transfer.serial;
   from = f.transfer.from;
@@ -50,7 +50,7 @@ record_in f = record {
   rx_capacity = f.rx_capacity;
 }
 
-abbrev first_or : Flight → List Flight → Flight
+abbrev first_or : FlightKey → List FlightKey → FlightKey
 first_or d [] = d
 first_or d (x ∷ xs) = x
 

@@ -11,10 +11,10 @@ use Rattle.un_journal.specs.Lookup.{phase_of, controls_done, is_asleep, is_stopp
 use Rattle.un_journal.specs.LaneSteps.{Outcome, Answers, lines_in, answer_in, tick_built, deliver_next, post, unlink_first, clear_set}
 use Rattle.un_journal.specs.Step.{Work, work, refill, unlink, clear_halt}
 use Rattle.un_journal.specs.Sound.{IsSound}
-use Rattle.un_journal.proofs.Onto.{onto}
-use Rattle.un_journal.proofs.LaneFacts.{lane_of, work_own, past_own}
-use Rattle.un_lane.specs.Way.{Way, Adds}
+use Rattle.un_journal.proofs.ForLink.{onto, lane_of, work_own, past_own}
+use Rattle.un_lane.specs.Way.{Way, Adds, HasRoom}
 use Rattle.un_lane.specs.Answered.{UnlessDid, IsUnchanged}
+use Rattle.un_lane.specs.Calls.{Ready as PathReady}
 use Rattle.un_lane.specs.Controls.{unmarked_in}
 use Rattle.un_lane.specs.Stands.{Stands}
 use Rattle.un_lane.specs.Phases.{Builds, Leaves}
@@ -23,7 +23,7 @@ use Rattle.un_lane.proofs.Lookups.{unmarked_is}
 use Rattle.un_link.specs.declared.half.Half.{Half}
 use Rattle.un_link.specs.declared.shared.Shared.{Shared}
 use Rattle.un_link.specs.Keeps.{Keeps}
-use Rattle.un_link.specs.Halves.{HalfKeeps, Goes, Does}
+use Rattle.un_link.specs.Halves.{HalfKeeps, Ready, Goes, Does}
 use Rattle.un_link.proofs.Frames.{is_calm, is_plain, calm_same, calm_read, plain_frames, built_after, covers_onto}
 use Rattle.un_link.proofs.Unchanged.{always, unless, half_same}
 
@@ -49,6 +49,10 @@ work_covers script h h' w lane of e sound =
     subst (λ g. cover (past lane h) ≤ cover g) (sym p) (covers_onto (lines_in (work script h w)) (past lane h) (subst IsSound p sound))
 
 -- WORK THAT BUILDS NOTHING; its outcome is told in the path's own words
+
+-- the path has what its call needs
+pub plain_ready : {T R : Type 0} (w : Work) (o : Outcome) (shared : Shared) (half : Half T R) → Ready w shared half → o ≡ work shared.script shared.journal.history w → PathReady (lines_in o) half.path shared.journal
+plain_ready w o shared half r same = record { stands = r.kept.keeps.stands; room = subst (λ o. HasRoom shared.journal (lines_in o)) (sym same) r.room }
 
 pub plain_goes : {T R : Type 0} (w : Work) (o : Outcome) (shared : Shared) (half : Half T R) (way' : Way) (log' : Log)
     → lane_of w ≡ Some half.path.lane → is_plain w ≡ true → HalfKeeps shared half → o ≡ work shared.script shared.journal.history w

@@ -6,7 +6,7 @@ use Rattle.un_endpoint.specs.Bus.{Trip}
 use Rattle.un_journal.specs.declared.lines.Line.TheVariants.{Flying, Cut as CutLine}
 use Rattle.un_journal.specs.declared.got.Got.{Got}
 use Rattle.un_journal.specs.declared.got.Got.TheVariants.{Part, Cut, Not}
-use Rattle.un_journal.specs.declared.machine.Flight.{Flight}
+use Rattle.un_journal.specs.declared.machine.FlightKey.{FlightKey}
 use Rattle.un_journal.specs.declared.machine.Transfer.{Transfer}
 use Rattle.un_journal.specs.Script.{Script}
 use Rattle.un_journal.specs.History.{History, past, span, made_bytes}
@@ -26,7 +26,7 @@ pub record LaneTrip : Type 0 where
   pub trip : Trip
 
 -- what it is as plain data
-abbrev pub flight_of : LaneTrip → Flight
+abbrev pub flight_of : LaneTrip → FlightKey
 flight_of f = record {
   transfer = record { lane = f.lane; serial = f.trip.tx.serial; from = f.trip.tx.from; to = f.trip.tx.to; bytes = f.trip.tx.bytes };
   tx = f.trip.tx.number;
@@ -68,7 +68,7 @@ landed_lines script h transfer = lines_in (work script h (Work.Land transfer.lan
 -- ONE LANE
 
 -- a flight came, and is the lane's only one
-pub record IsTaken (lane : Lane) (g : History) (outcome : Outcome) (f : LaneTrip) (before after : List Flight) : Type 0 where
+pub record IsTaken (lane : Lane) (g : History) (outcome : Outcome) (f : LaneTrip) (before after : List FlightKey) : Type 0 where
   pub lane_is : f.lane ≡ lane
   pub writes : outcome ≡ Writes (bare (Flying lane f.trip.tx.serial) ∷ [])
   pub names : got_outcome lane g outcome ≡ Part (flight_of f).transfer
@@ -76,18 +76,18 @@ pub record IsTaken (lane : Lane) (g : History) (outcome : Outcome) (f : LaneTrip
   pub is_out : after ≡ flight_of f ∷ []
 
 -- a queued transfer was cut; none of the lane's flew
-pub record IsReaped (lane : Lane) (outcome : Outcome) (before after : List Flight) : Type 0 where
+pub record IsReaped (lane : Lane) (outcome : Outcome) (before after : List FlightKey) : Type 0 where
   pub writes : (k : ℕ) × (c : ℕ) × (outcome ≡ Writes (bare (CutLine lane k c) ∷ []))
   pub none_was : before ≡ []
   pub none_is : after ≡ []
 
 -- what came of a take, with the lane's flights before and after it
-abbrev pub Came : Lane → History → Outcome → Got LaneTrip → List Flight → List Flight → Type 0
+abbrev pub Came : Lane → History → Outcome → Got LaneTrip → List FlightKey → List FlightKey → Type 0
 Came lane g outcome (Part f) before after = IsTaken lane g outcome f before after
 Came lane g outcome Cut before after = IsReaped lane outcome before after
 Came lane g outcome (Not answer) before after = (outcome ≡ Answers answer) × (after ≡ before)
 
-abbrev pub path_flights : Way → Log → List Flight
+abbrev pub path_flights : Way → Log → List FlightKey
 path_flights way log = lane_flights way.lane (past way.lane log.history) way.bus.flight
 
 -- a half after a take, and after a landing
@@ -107,7 +107,7 @@ across Outward = Inward
 across Inward = Outward
 
 -- the flights of one lane that are out of a link
-abbrev pub flights_in : Lane → Link → List Flight
+abbrev pub flights_in : Lane → Link → List FlightKey
 flights_in Outward link = lane_flights Outward (past Outward link.log.history) link.out.bus.flight
 flights_in Inward link = lane_flights Inward (past Inward link.log.history) link.inward.bus.flight
 

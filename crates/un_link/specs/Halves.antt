@@ -20,7 +20,7 @@ pub record HalfKeeps {T R : Type 0} (shared : Shared) (half : Half T R) : Type 0
   pub keeps : Keeps shared.script shared.phase half.path (past half.path.lane shared.journal.history)
   pub read_is : AreRead half.read (past half.path.lane shared.journal.history)
   pub phase_is : shared.phase ≡ phase_of shared.script shared.journal.history
-  pub done_is : shared.done ≡ controls_done (reverse shared.journal.history)
+  pub next_control_is : shared.next_control ≡ controls_done (reverse shared.journal.history)
 
 -- and there is room for the lines of this work
 pub record Ready {T R : Type 0} (w : Work) (shared : Shared) (half : Half T R) : Type 0 where

@@ -6,7 +6,7 @@ use Rattle.un_frame.specs.declared.kinds.Phase.{Phase}
 use Rattle.un_frame.specs.Params.{AreInRange, Agree}
 use Rattle.un_endpoint.specs.declared.record.FlightRecord.{FlightRecord}
 use Rattle.un_journal.specs.declared.actions.Answer.{Answer}
-use Rattle.un_journal.specs.declared.machine.Flight.{Flight}
+use Rattle.un_journal.specs.declared.machine.FlightKey.{FlightKey}
 use Rattle.un_journal.specs.Script.{Script}
 use Rattle.un_journal.specs.History.{History, past, made_bytes}
 use Rattle.un_journal.specs.Log.{Log}
@@ -29,7 +29,7 @@ pub record Link : Type 0 where
   pub out_read : Cursors
   pub in_read : Cursors
   pub phase : Phase
-  pub done : ℕ
+  pub next_control : ℕ
 
 -- the history is legal, and there is room for all lines that may yet come
 pub record IsLogged (script : Script) (log : Log) : Type 0 where
@@ -50,12 +50,12 @@ pub record Holds (link : Link) : Type 0 where
   pub out_read_is : AreRead link.out_read (past Outward link.log.history)
   pub in_read_is : AreRead link.in_read (past Inward link.log.history)
   pub phase_is : link.phase ≡ phase_of link.script link.log.history
-  pub done_is : link.done ≡ controls_done (reverse link.log.history)
+  pub next_control_is : link.next_control ≡ controls_done (reverse link.log.history)
 
 -- FLIGHTS
 
 -- the flight of a lane as un_journal's machines see it; its bytes are those of its made line
-abbrev pub flight_in : Lane → History → FlightRecord → Flight
+abbrev pub flight_in : Lane → History → FlightRecord → FlightKey
 flight_in lane g f = record {
   transfer = record { lane = lane; serial = f.serial; from = f.from; to = f.to; bytes = made_bytes g f.serial };
   tx = f.tx;
@@ -64,12 +64,12 @@ flight_in lane g f = record {
   rx_capacity = f.rx_capacity;
 }
 
-abbrev pub lane_flights : Lane → History → Option FlightRecord → List Flight
+abbrev pub lane_flights : Lane → History → Option FlightRecord → List FlightKey
 lane_flights lane g None = []
 lane_flights lane g (Some f) = flight_in lane g f ∷ []
 
 -- the flights that are out of a link
-abbrev pub flights_of : Link → List Flight
+abbrev pub flights_of : Link → List FlightKey
 flights_of link =
     lane_flights Outward (past Outward link.log.history) link.out.bus.flight
     ++ lane_flights Inward (past Inward link.log.history) link.inward.bus.flight

@@ -21,12 +21,10 @@ impl LinkOver<HostTx, GadRx, GadTx, HostRx> {
         requires { agreed_of script.params ≡ Ok agreed.now }
         ensures { IfOk result (λ l. (l.script ≡ script) × (l.log.history ≡ []) × (l.phase ≡ Up) × (flights_of l ≡ [])) }
     {
-        script.is_ready();
+        script.prove_ready();
         let params = agreed.params;
-        let out_tx = HostTx::make(alloc, &params)?;
-        let out_rx = GadRx::make(alloc, &params)?;
-        let in_tx = GadTx::make(alloc, &params)?;
-        let in_rx = HostRx::make(alloc, &params)?;
+        let (out_tx, in_rx) = un_host::make(alloc, &params)?;
+        let (in_tx, out_rx) = un_gadget::make(alloc, &params)?;
         LinkOver::make_over(alloc, script, out_tx, out_rx, in_tx, in_rx)
     }
 }

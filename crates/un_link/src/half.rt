@@ -93,7 +93,7 @@ impl<T: TxEnd + Drop, R: RxEnd + Drop> Half<T, R> {
         requires { Ready (Unlink self.old.path.lane) shared.old self.old }
         ensures { Does (Unlink self.old.path.lane) shared.old shared.new self.old self.new result }
     {
-        let cause = shared.done.saturating_sub(1);
+        let cause = shared.next_control.saturating_sub(1);
         match shared.phase {
             Phase::Stopping => self.path.unlink(&mut shared.journal, cause),
             _ => Answer::Nothing,

@@ -41,9 +41,9 @@ impl<A: TxEnd + Drop, B: RxEnd + Drop, C: TxEnd + Drop, D: RxEnd + Drop> Model
 
     ghost Value = { Link };
 
-    ghost view = { λ l. record { script = l.shared.script; log = l.shared.journal; out = l.out.path; inward = l.inward.path; out_read = l.out.read; in_read = l.inward.read; phase = l.shared.phase; done = l.shared.done } };
+    ghost view = { λ l. record { script = l.shared.script; log = l.shared.journal; out = l.out.path; inward = l.inward.path; out_read = l.out.read; in_read = l.inward.read; phase = l.shared.phase; next_control = l.shared.next_control } };
 
-    ghost invariant = { λ l. Holds (record { script = l.shared.script; log = l.shared.journal; out = l.out.path; inward = l.inward.path; out_read = l.out.read; in_read = l.inward.read; phase = l.shared.phase; done = l.shared.done }) };
+    ghost invariant = { λ l. Holds (record { script = l.shared.script; log = l.shared.journal; out = l.out.path; inward = l.inward.path; out_read = l.out.read; in_read = l.inward.read; phase = l.shared.phase; next_control = l.shared.next_control }) };
 }
 
 impl<A: TxEnd + Drop, B: RxEnd + Drop, C: TxEnd + Drop, D: RxEnd + Drop> LinkOver<A, B, C, D> {
@@ -63,7 +63,7 @@ impl<A: TxEnd + Drop, B: RxEnd + Drop, C: TxEnd + Drop, D: RxEnd + Drop> LinkOve
         requires in_params { (C.transmitter in_tx).params ≡ script.params }
         ensures { IfOk result (λ l. (l.script ≡ script) × (l.log.history ≡ []) × (l.phase ≡ Up) × (flights_of l ≡ [])) }
     {
-        script.is_ready();
+        script.prove_ready();
         let params = *script.params();
         let (tx_count, rx_count) = (params.tx_out, params.rx_out);
         let out = Half::make(alloc, Lane::Outward, out_tx, out_rx, tx_count, rx_count)?;

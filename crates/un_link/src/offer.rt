@@ -75,7 +75,7 @@ impl<T: TxEnd + Drop, R: RxEnd + Drop> Half<T, R> {
         ensures { result ≡ is_still (work shared.now.script shared.now.journal.history (Offer lane sender)) }
     {
         let script = &shared.script;
-        script.is_ready();
+        script.prove_ready();
         let Some(frame) = script.frame(lane, sender, self.read.at(sender)) else {
             return true;
         };

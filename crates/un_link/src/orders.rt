@@ -67,13 +67,13 @@ fn unlink<A: TxEnd + Drop, B: RxEnd + Drop, C: TxEnd + Drop, D: RxEnd + Drop>(
     lane: Lane,
 )
     requires keep { KeepBoth shared.old.script shared.old.phase out.old inward.old shared.old.journal }
-    requires room { HasRoom shared.old.journal (order_lines (Control.Unlink lane) shared.old.done shared.old.phase (past Outward shared.old.journal.history) (past Inward shared.old.journal.history)) }
-    ensures obeys { Obeys shared.old.script (Control.Unlink lane) shared.old.done shared.old.phase out.old out.new inward.old inward.new shared.old.journal shared.new.journal }
+    requires room { HasRoom shared.old.journal (order_lines (Control.Unlink lane) shared.old.next_control shared.old.phase (past Outward shared.old.journal.history) (past Inward shared.old.journal.history)) }
+    ensures obeys { Obeys shared.old.script (Control.Unlink lane) shared.old.next_control shared.old.phase out.old out.new inward.old inward.new shared.old.journal shared.new.journal }
     ensures shares { shared.new ≡ record shared.old { journal = shared.new.journal } }
 {
     match lane {
-        Lane::Outward => out.mark_all(&mut shared.journal, shared.done),
-        Lane::Inward => inward.mark_all(&mut shared.journal, shared.done),
+        Lane::Outward => out.mark_all(&mut shared.journal, shared.next_control),
+        Lane::Inward => inward.mark_all(&mut shared.journal, shared.next_control),
     }
 }
 
@@ -84,11 +84,11 @@ fn unplug<A: TxEnd + Drop, B: RxEnd + Drop, C: TxEnd + Drop, D: RxEnd + Drop>(
     shared: &mut Shared,
 )
     requires keep { KeepBoth shared.old.script shared.old.phase out.old inward.old shared.old.journal }
-    requires room { HasRoom shared.old.journal (order_lines Control.Unplug shared.old.done shared.old.phase (past Outward shared.old.journal.history) (past Inward shared.old.journal.history)) }
-    ensures obeys { Obeys shared.old.script Control.Unplug shared.old.done shared.old.phase out.old out.new inward.old inward.new shared.old.journal shared.new.journal }
+    requires room { HasRoom shared.old.journal (order_lines Control.Unplug shared.old.next_control shared.old.phase (past Outward shared.old.journal.history) (past Inward shared.old.journal.history)) }
+    ensures obeys { Obeys shared.old.script Control.Unplug shared.old.next_control shared.old.phase out.old out.new inward.old inward.new shared.old.journal shared.new.journal }
     ensures shares { shared.new ≡ record shared.old { journal = shared.new.journal } }
 {
-    let cause = shared.done;
+    let cause = shared.next_control;
     drop_both(out, inward, &mut shared.journal, cause);
     mark_both(out, inward, &mut shared.journal, cause);
     recall_both(out, inward, &mut shared.journal);
@@ -102,16 +102,16 @@ pub(crate) fn obey<A: TxEnd + Drop, B: RxEnd + Drop, C: TxEnd + Drop, D: RxEnd +
     control: Control,
 )
     requires keep { KeepBoth shared.old.script shared.old.phase out.old inward.old shared.old.journal }
-    requires room { HasRoom shared.old.journal (order_lines control shared.old.done shared.old.phase (past Outward shared.old.journal.history) (past Inward shared.old.journal.history)) }
+    requires room { HasRoom shared.old.journal (order_lines control shared.old.next_control shared.old.phase (past Outward shared.old.journal.history) (past Inward shared.old.journal.history)) }
     requires free { hinders control shared.old.phase (past Outward shared.old.journal.history) (past Inward shared.old.journal.history) ≡ 0 }
-    ensures obeys { Obeys shared.old.script control shared.old.done shared.old.phase out.old out.new inward.old inward.new shared.old.journal shared.new.journal }
+    ensures obeys { Obeys shared.old.script control shared.old.next_control shared.old.phase out.old out.new inward.old inward.new shared.old.journal shared.new.journal }
     ensures shares { shared.new ≡ record shared.old { journal = shared.new.journal } }
 {
     match control {
         Control::Suspend => inward.recall_all(&mut shared.journal),
         Control::Resume | Control::Up => out.resume(),
         Control::Unlink { lane } => unlink(out, inward, shared, lane),
-        Control::Down => drop_both(out, inward, &mut shared.journal, shared.done),
+        Control::Down => drop_both(out, inward, &mut shared.journal, shared.next_control),
         Control::Unplug => unplug(out, inward, shared),
     }
 }

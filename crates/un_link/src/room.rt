@@ -16,7 +16,7 @@ const RESERVED_BYTES: u64 = 192;
 pub(crate) fn lines_of(script: &Script) -> u64
     ensures { result ≡ line_bound script.now }
 {
-    script.is_ready();
+    script.prove_ready();
     let params = script.params();
     let frames = u64::from(script.frame_count());
     let controls = u64::from(script.control_count());
@@ -44,7 +44,7 @@ fn lane_bytes(script: &Script, lane: Lane, before: u64) -> Option<u64>
 fn feed_bytes(script: &Script, lane: Lane, sender: u32, before: u64) -> Option<u64>
     ensures { IfSome result (λ n. n ≡ before + sum_by frame_room (frames_of script.now lane sender)) }
 {
-    script.is_ready();
+    script.prove_ready();
     let mut bytes: u64 = before;
     for index in 0..u64::MAX {
         let Some(frame) = script.frame(lane, sender, index) else {

@@ -12,21 +12,21 @@ use un_frame::Phase;
 use un_journal::Journal;
 use un_script::Script;
 
-/// The script, the one history of both lanes, the phase, and how many controls are done.
+/// The script, the one history of both lanes, the phase, and the index of the first control that isn't done.
 #[derive(Drop)]
 pub struct Shared {
     pub(crate) script: Script,
     pub(crate) journal: Journal,
     pub(crate) phase: Phase,
-    pub(crate) done: u32,
+    pub(crate) next_control: u32,
 }
 
 impl Shared {
     /// An empty history with room for all that the script can make it, in phase `Up`. The error is want of memory.
     pub(crate) fn make(alloc: Global, script: Script) -> Result<Shared, AllocError>
-        ensures { IfOk result (λ s. s ≡ record { script = script; journal = record { history = []; spare_lines = line_bound script; spare_bytes = byte_bound script }; phase = Up; done = 0 }) }
+        ensures { IfOk result (λ s. s ≡ record { script = script; journal = record { history = []; spare_lines = line_bound script; spare_bytes = byte_bound script }; phase = Up; next_control = 0 }) }
     {
-        script.is_ready();
+        script.prove_ready();
         let lines = lines_of(&script);
         let Some(bytes) = bytes_of(&script) else {
             return Err(AllocError);
@@ -36,7 +36,7 @@ impl Shared {
             script,
             journal,
             phase: Phase::Up,
-            done: 0,
+            next_control: 0,
         })
     }
 }

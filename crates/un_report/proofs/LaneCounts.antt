@@ -14,10 +14,8 @@ use Rattle.un_journal.specs.History.{Entry, History, past, concerns, made, span,
 use Rattle.un_journal.specs.Lookup.{phase_after}
 use Rattle.un_journal.specs.Log.{IsEntry, AreEntries, FitsTypes}
 use Rattle.un_journal.specs.Sound.{IsSound, IsNext}
-use Rattle.un_journal.proofs.Lists.{past_more}
-use Rattle.un_journal.proofs.Onto.{onto, newest, past_onto, sound_below}
-use Rattle.un_journal.proofs.Order.{in_order, flight_is, next_is}
-use Rattle.un_journal.proofs.Homes.{flying_made}
+use Rattle.un_journal.proofs.ForLink.{past_more, onto, newest, past_onto, sound_below}
+use Rattle.un_journal.proofs.ForLane.{in_order, flight_is, next_is, flying_made}
 use Rattle.un_report.specs.declared.tally.Tally.{Tally}
 use Rattle.un_report.specs.declared.lane_count.LaneCount.{LaneCount}
 use Rattle.un_report.specs.Counts.{span_size, counts, is_short, is_long, is_filtered}

@@ -1,4 +1,4 @@
-pub mod Parts
-pub mod LaneCounts
-pub mod Feeds
-pub mod Examples
+mod Parts
+mod LaneCounts
+mod Feeds
+mod Examples

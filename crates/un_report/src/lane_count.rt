@@ -75,36 +75,32 @@ pub fn first() -> LaneCount
     }
 }
 
-/// What is known with the line of this index too, for packets of so many bytes.
-pub fn count(journal: &Journal, lane: Lane, before: LaneCount, packet: u32, index: u64) -> LaneCount
+/// Adds the line of this index to what is known, for packets of so many bytes.
+pub fn count(journal: &Journal, lane: Lane, known: &mut LaneCount, packet: u32, index: u64)
     requires sound { IsSound (past lane journal.now.history) }
     requires packet { 8 ≤ packet }
     requires within { index < length journal.now.history }
     requires few { index < 18446744073709551615 }
-    requires before { IsLaneCount packet lane journal.now.history index before }
-    ensures { IsLaneCount packet lane journal.now.history (index + 1) result }
+    requires before { IsLaneCount packet lane journal.now.history index known.old }
+    ensures { IsLaneCount packet lane journal.now.history (index + 1) known.new }
 {
-    journal.keeps_entries();
+    journal.prove_entries();
     let line = journal.line(index);
     if !line.concerns(lane) {
-        return before;
+        return;
     }
     if !is_end(line) {
-        return LaneCount {
-            next: before.next,
-            tally: count_line(before.tally, line, index),
-        };
+        known.tally = count_line(known.tally, line, index);
+        return;
     }
-    let found = find(journal, lane, before.next, index);
-    LaneCount {
-        next: found.next,
-        tally: count_end(
-            before.tally,
-            line,
-            found.datagrams,
-            found.bytes,
-            packet,
-            index,
-        ),
-    }
+    let found = find(journal, lane, known.next, index);
+    known.next = found.next;
+    known.tally = count_end(
+        known.tally,
+        line,
+        found.datagrams,
+        found.bytes,
+        packet,
+        index,
+    );
 }

@@ -1,5 +1,10 @@
 //! The report of a run: what the two ends agreed on, the bytes that crossed meanwhile, and for each lane its counts and the frames
 //! that were delivered.
+//!
+//! ```text
+//! let survey = go_over(&script, &journal, params.packet); // both lanes' counts, in one pass over the history
+//! write(&mut sink, &script, &agreed, &journal)?;          // the whole text
+//! ```
 #![tactic(auto)]
 
 mod frames;

@@ -57,8 +57,8 @@ pub fn go_over(script: &Script, journal: &Journal, packet: u32) -> Survey
     let mut inward = first();
     let mut phase = Phase::Up;
     for index in 0..journal.len() {
-        outward = count(journal, Lane::Outward, outward, packet, index);
-        inward = count(journal, Lane::Inward, inward, packet, index);
+        count(journal, Lane::Outward, &mut outward, packet, index);
+        count(journal, Lane::Inward, &mut inward, packet, index);
         phase = after_line(script, phase, journal.line(index));
     }
     Survey {

@@ -1,7 +1,7 @@
 -- What a worker's seat has seen and counted.
 use Rattle.std.specs.Prelude.{◌≡◌, ℕ, ◌+◌, ◌≤◌, ◌⊎◌, Bool, true, List, [], ◌∷◌, Option, Some, None}
 use Rattle.un_journal.specs.History.{History}
-use Rattle.un_journal.specs.declared.machine.Flight.{Flight}
+use Rattle.un_journal.specs.declared.machine.FlightKey.{FlightKey}
 use Rattle.un_journal.specs.declared.got.Got.{Got}
 use Rattle.un_journal.specs.declared.got.Got.TheVariants.{Part, Cut, Not}
 use Rattle.un_turn.specs.declared.view.View.{View}
@@ -9,8 +9,8 @@ use Rattle.un_journal.specs.Flights.{times}
 use Rattle.un_turn.specs.Views.{StartsWith}
 
 -- the seat knows this flight and no other
-abbrev pub KnowsOnly : Flight → List Flight → Type 0
-KnowsOnly r known = (x : Flight) → times x known ≡ times x (r ∷ [])
+abbrev pub KnowsOnly : FlightKey → List FlightKey → Type 0
+KnowsOnly r known = (x : FlightKey) → times x known ≡ times x (r ∷ [])
 
 module _ {S : Type 0} where
   -- the history has a beginning at which the machine is finished
@@ -47,7 +47,7 @@ module _ {S : Type 0} where
     pub ended : HasFinished is_finished w.script w.seen ⊎ (v.calls + more ≤ w.calls)
 
 -- nothing was taken, or the seat knows the part's flight alone
-abbrev pub Attempted : {P : Type 0} → (P → Flight) → Option (Got P) → List Flight → Type 0
+abbrev pub Attempted : {P : Type 0} → (P → FlightKey) → Option (Got P) → List FlightKey → Type 0
 Attempted flight_of None known = known ≡ []
 Attempted flight_of (Some (Part p)) known = KnowsOnly (flight_of p) known
 Attempted flight_of (Some Cut) known = known ≡ []

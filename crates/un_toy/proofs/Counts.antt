@@ -2,7 +2,7 @@
 use Rattle.std.proofs.Common.{◌≡◌, ℕ, ◌+◌, ◌<◌, Bool, true, false, nat_lt, [], ◌∷◌, ◌++◌, if◌then◌else◌, refl, ap, ◌∙◌, arith}
 use Rattle.un_facts.specs.Numbers.{one_if}
 use borrow.Author.Tests.{ltb-true}
-use Rattle.un_journal.specs.declared.machine.Flight.{Flight}
+use Rattle.un_journal.specs.declared.machine.FlightKey.{FlightKey}
 use Rattle.un_journal.specs.Flights.{times}
 use Rattle.un_journal.specs.declared.lines.Line.{Line}
 use Rattle.un_journal.specs.History.{Entry, History}
@@ -16,7 +16,7 @@ pub pushed : (kind : Line → Bool) (old new : History) (e : Entry) → new ≡ 
 pushed kind old new e grows = ap (count_of kind) grows ∙ counted kind old e
 
 -- where a flight is out, one more has flown than landed
-pub is_out : (r : Flight) (flown landed : ℕ) → 0 < times r (flights_of flown landed) → landed < flown
+pub is_out : (r : FlightKey) (flown landed : ℕ) → 0 < times r (flights_of flown landed) → landed < flown
 is_out r flown landed = go (nat_lt landed flown) refl
   where
     go : (b : Bool) → nat_lt landed flown ≡ b → 0 < times r (if b then flight landed ∷ [] else []) → landed < flown

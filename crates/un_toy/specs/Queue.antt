@@ -9,7 +9,7 @@ use Rattle.un_journal.specs.declared.actions.Answer.TheVariants.{Did, Nothing}
 use Rattle.un_journal.specs.declared.got.Got.{Got}
 use Rattle.un_journal.specs.declared.got.Got.TheVariants.{Part, Not}
 use Rattle.un_journal.specs.declared.lines.Line.{Line}
-use Rattle.un_journal.specs.declared.machine.Flight.{Flight}
+use Rattle.un_journal.specs.declared.machine.FlightKey.{FlightKey}
 use Rattle.un_journal.specs.declared.machine.Transfer.{Transfer}
 use Rattle.un_journal.specs.Flights.{total_of}
 use Rattle.un_journal.specs.History.{Entry, History}
@@ -43,11 +43,11 @@ landed_in h = count_of is_landed h
 abbrev pub transfer : ℕ → Transfer
 transfer serial = record { lane = Outward; serial = serial; from = serial; to = serial + 1; bytes = [] }
 
-abbrev pub flight : ℕ → Flight
+abbrev pub flight : ℕ → FlightKey
 flight serial = record { transfer = transfer serial; tx = 0; tx_capacity = 0; rx = 0; rx_capacity = 0 }
 
 -- where more have flown than landed, the first that hasn't landed is out
-abbrev pub flights_of : ℕ → ℕ → List Flight
+abbrev pub flights_of : ℕ → ℕ → List FlightKey
 flights_of flown landed = if nat_lt landed flown then flight landed ∷ [] else []
 
 -- an outward offer adds an item while there is room

@@ -1,5 +1,5 @@
 pub mod Sums
 pub mod Flights
-pub mod Moves
-pub mod Kept
-pub mod Owners
+mod Moves
+mod Kept
+mod Owners

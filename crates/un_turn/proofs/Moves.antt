@@ -10,10 +10,10 @@ use Rattle.atomic_table.specs.Table.{State, Act, keeps, takes, gives, step, open
 use Rattle.atomic_table.proofs.Lists.{at_set, at_snoc, set_here, set_else, exchanged}
 use Rattle.un_journal.specs.History.{History}
 use Rattle.un_turn.specs.declared.view.View.{View}
-use Rattle.un_journal.specs.declared.machine.Flight.{Flight}
+use Rattle.un_journal.specs.declared.machine.FlightKey.{FlightKey}
 use Rattle.un_journal.specs.Flights.{total_of, times}
 use Rattle.un_turn.specs.Views.{Follows}
-use Rattle.un_turn.specs.Views.{StartsWith, IsKept}
+use Rattle.un_turn.specs.Views.{StartsWith, KeepsMachine}
 use Rattle.un_turn.specs.Steps.{opening_view, spent, entered, lost, left, split_left, split_right, told, compared, met, Sat, won_or_lost, freed}
 use Rattle.un_turn.specs.Rule.{IsSeated, Turned}
 use Rattle.un_turn.proofs.Sums.{sum-set, sum-snoc, term_le, terms_le, only_one}
@@ -30,7 +30,7 @@ starts_refl xs = ([], sym (append-nil xs))
 pub starts_trans : (xs ys zs : History) → StartsWith xs ys → StartsWith ys zs → StartsWith xs zs
 starts_trans xs ys zs p q = (q.0 ++ p.0, p.1 ∙ ap (λ t. t ++ p.0) q.1 ∙ append_assoc zs q.0 p.0)
 
-module _ {M S : Type 0} (script : M → S) (history : M → History) (flights : M → List Flight) where
+module _ {M S : Type 0} (script : M → S) (history : M → History) (flights : M → List FlightKey) where
   at_one : (v u : View S) (j : ℕ) → get_elem? (v ∷ []) j ≡ some u → v ≡ u
   at_one v u zero e = some-injective v u e
   at_one v u (suc j) e = absurd (some-ne-none u (sym e))
@@ -64,7 +64,7 @@ module _ {M S : Type 0} (script : M → S) (history : M → History) (flights : 
   seated_with plan total v some_share (inr is) = is
 
   -- one view changes
-  changed : (s : State (Option M) (View S)) (t : Turned script history flights s) (id : ℕ) (v w : View S) (ws : List ℕ) (hs : List (mathlib.Core.Option.Option (Option M))) (word : ℕ) (log : History) (out : List Flight)
+  changed : (s : State (Option M) (View S)) (t : Turned script history flights s) (id : ℕ) (v w : View S) (ws : List ℕ) (hs : List (mathlib.Core.Option.Option (Option M))) (word : ℕ) (log : History) (out : List FlightKey)
       → get_elem? s.views id ≡ some v → ws ≡ word ∷ [] → length hs ≡ 1 → word ≤ 1
       → one_if w.holds + t.word ≡ one_if v.holds + word
       → (word ≡ 0 → (machine : M) × (get_elem? hs 0 ≡ some (some (Some machine))) × (script machine ≡ t.plan) × (history machine ≡ log) × (flights machine ≡ out))
@@ -73,8 +73,8 @@ module _ {M S : Type 0} (script : M → S) (history : M → History) (flights : 
       → IsSeated t.plan t.total w
       → ((xs : History) → StartsWith t.log xs → StartsWith log xs) → StartsWith log w.seen → StartsWith log w.heard
       → w.shares ≡ v.shares
-      → ((x : Flight) → times x w.known + times x t.out ≡ times x v.known + times x out)
-      → ((x : Flight) → times x out ≤ 1)
+      → ((x : FlightKey) → times x w.known + times x t.out ≡ times x v.known + times x out)
+      → ((x : FlightKey) → times x out ≤ 1)
       → Turned script history flights (record { words = ws; homes = hs; views = set s.views id w })
   changed s t id v w ws hs word log out me words slots bit holders home others mine seated grows seen heard shares follows single = record {
     word = word;
@@ -153,7 +153,7 @@ module _ {M S : Type 0} (script : M → S) (history : M → History) (flights : 
   same_held : (x y : M) → ◌≡◌ {A = List (ℕ × Option M)} ((0, Some x) ∷ []) ((0, Some y) ∷ []) → x ≡ y
   same_held x y e = let f : Some x ≡ Some y = ap (λ (l : List (ℕ × Option M)). (get_or l 0 (0, Some x)).1) e in cc
 
-  leaves_with : (id calls : ℕ) (v : View S) (machine : M) (known : List Flight) → v.holds ≡ true → 0 < v.shares → v.script ≡ Some (script machine) → StartsWith (history machine) v.entry → Follows v.flying (flights machine) v.known known → ((x : Flight) → times x (flights machine) ≤ 1)
+  leaves_with : (id calls : ℕ) (v : View S) (machine : M) (known : List FlightKey) → v.holds ≡ true → 0 < v.shares → v.script ≡ Some (script machine) → StartsWith (history machine) v.entry → Follows v.flying (flights machine) v.known known → ((x : FlightKey) → times x (flights machine) ≤ 1)
       → Allows (Turned script history flights) 1 id (v, (0, Some machine) ∷ []) 0 (λ _. 0) (λ _. freed history flights calls (step 1 0 0 0 none) (v, (0, Some machine) ∷ []) 0)
   leaves_with id calls v machine known holds some_share same_script grown follows single s t wide me small =
       let w = left v calls (history machine) known in
@@ -177,7 +177,7 @@ module _ {M S : Type 0} (script : M → S) (history : M → History) (flights : 
         λ other has. subst (λ (x : M). (◌≡◌ {A = Sat M S} (w, []) (left v calls (history x) known, [])) × Follows v.flying (flights x) v.known known) (same_held machine other has) (refl, follows),
       )
 
-  pub leaves : (id calls : ℕ) (m : Sat M S) (machine : M) (called : Bool) → m.1 ≡ (0, Some machine) ∷ [] → IsKept script history flights m.0 machine called
+  pub leaves : (id calls : ℕ) (m : Sat M S) (machine : M) (called : Bool) → m.1 ≡ (0, Some machine) ∷ [] → KeepsMachine script history flights m.0 machine called
       → Allows (Turned script history flights) 1 id m 0 (λ _. 0) (λ _. freed history flights calls (step 1 0 0 0 none) m 0)
   leaves id calls m machine called has kept =
       let e : m ≡ (m.0, (0, Some machine) ∷ []) = λ i. (m.0, has i) in
@@ -275,7 +275,7 @@ longer_from : (log xs ys : History) → StartsWith log xs → StartsWith log ys 
 longer_from log xs ys p q true = q
 longer_from log xs ys p q false = p
 
-module _ {M S : Type 0} (script : M → S) (history : M → History) (flights : M → List Flight) where
+module _ {M S : Type 0} (script : M → S) (history : M → History) (flights : M → List FlightKey) where
   pub compares : (id : ℕ) (m : Sat M S) → 0 < m.0.shares → Allows (Turned script history flights) 1 id m 0 (λ n. n) (met (step 1 0 0 0 none) m)
   compares id m some_share s t wide me small =
       let v = m.0 in
@@ -289,7 +289,7 @@ module _ {M S : Type 0} (script : M → S) (history : M → History) (flights : 
         (let both = longer_begins t.log v.seen v.heard (t.seen id v me) (t.heard id v me) _ refl in (refl, both.0, both.1)),
       )
 
-module _ {M S : Type 0} (script : M → S) (history : M → History) (flights : M → List Flight) where
+module _ {M S : Type 0} (script : M → S) (history : M → History) (flights : M → List FlightKey) where
   -- where one seat has all shares, the others were joined away
   pub alone : (s : State (Option M) (View S)) (t : Turned script history flights s) (id : ℕ) (v : View S) → get_elem? s.views id ≡ some v → 0 < v.shares → v.shares ≡ v.total → (j : ℕ) (u : View S) → j ≢ id → get_elem? s.views j ≡ some u → u ≡ spent
   alone s t id v me some_share all j u apart at =

@@ -3,7 +3,7 @@
 -- two joined seats had seen.
 use Rattle.std.specs.Prelude.{◌≡◌, ◌≢◌, ℕ, ◌+◌, ◌-◌, ◌≤◌, true, false, List, [], ◌∷◌, Option, Some, None, length, nat_lt, if◌then◌else◌}
 use Rattle.atomic_table.specs.Table.{Me, Step}
-use Rattle.un_journal.specs.declared.machine.Flight.{Flight}
+use Rattle.un_journal.specs.declared.machine.FlightKey.{FlightKey}
 use Rattle.un_journal.specs.Flights.{times}
 use Rattle.un_journal.specs.History.{History}
 use Rattle.un_turn.specs.declared.view.View.{View}
@@ -47,7 +47,7 @@ module _ {S : Type 0} where
   }
 
   -- the winner holds the turn, and entered with the machine's history and flights
-  abbrev pub entered : View S → History → List Flight → View S
+  abbrev pub entered : View S → History → List FlightKey → View S
   entered v history out = record {
     script = v.script;
     total = v.total;
@@ -79,7 +79,7 @@ module _ {S : Type 0} where
   }
 
   -- the holder has left: it has seen the machine's history, counts its calls, and knows these flights
-  abbrev pub left : View S → ℕ → History → List Flight → View S
+  abbrev pub left : View S → ℕ → History → List FlightKey → View S
   left v calls history known = record {
     script = v.script;
     total = v.total;
@@ -165,19 +165,19 @@ module _ {S : Type 0} where
 abbrev pub Sat : Type 0 → Type 0 → Type 0
 Sat M S = Me (Option M) (View S)
 
-module _ {M S : Type 0} (script : M → S) (history : M → History) (flights : M → List Flight) where
+module _ {M S : Type 0} (script : M → S) (history : M → History) (flights : M → List FlightKey) where
   -- the seat has the turn and the machine, which has its script, a history that begins with all that it had seen, and its flights out
   abbrev pub Won : Sat M S → Sat M S → Type 0
   Won m n = (machine : M) × (n ≡ (entered m.0 (history machine) (flights machine), (0, Some machine) ∷ m.1))
       × (m.0.script ≡ Some (script machine)) × StartsWith (history machine) m.0.seen
-      × IsOut m.0.known (flights machine) × ((x : Flight) → times x (flights machine) ≤ 1)
+      × IsOut m.0.known (flights machine) × ((x : FlightKey) → times x (flights machine) ≤ 1)
 
   -- the exchange found 0 and won, or it found 1 and lost
   abbrev pub won_or_lost : Step (Option M) → Sat M S → ℕ → Sat M S → Type 0
   won_or_lost st m found n = (found ≡ 0 → Won m n) × (found ≢ 0 → (found ≡ 1) × (n ≡ (lost m.0, m.1)))
 
 -- the seat has left the machine that it held, after so many calls
-abbrev pub freed : {M S : Type 0} → (M → History) → (M → List Flight) → ℕ → Step (Option M) → Sat M S → ℕ → Sat M S → Type 0
+abbrev pub freed : {M S : Type 0} → (M → History) → (M → List FlightKey) → ℕ → Step (Option M) → Sat M S → ℕ → Sat M S → Type 0
 freed {M} history flights calls st m found n = (machine : M) → m.1 ≡ (0, Some machine) ∷ []
     → (n ≡ (left m.0 calls (history machine) n.0.known, [])) × Follows m.0.flying (flights machine) m.0.known n.0.known
 

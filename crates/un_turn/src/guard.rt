@@ -33,13 +33,13 @@ pub struct Guard<'a, M: Machine> {
 impl<'a, M: Machine> Model for Guard<'a, M> {
     ghost use Rattle.std.specs.Prelude.{◌≡◌, ◌<◌, ℕ, true, None, [], ◌∷◌, Some};
     ghost use Rattle.atomic_table.specs.Seated.{TableId};
-    ghost use Rattle.un_turn.specs.Views.{Hold, IsKept};
+    ghost use Rattle.un_turn.specs.Views.{Hold, KeepsMachine};
 
     ghost Value = { Hold M M.Script };
 
     ghost view = { λ h. record { turn = h.token.table_id; id = h.token.id; view = h.token.me.0; machine = h.machine; called = h.called } };
 
-    ghost invariant = { λ h. (h.token.table_id ≡ h.turn.now) × (h.token.me.1 ≡ (0, None) ∷ []) × (h.token.me.0.heard ≡ []) × IsKept M.script M.history M.flights h.token.me.0 h.machine h.called };
+    ghost invariant = { λ h. (h.token.table_id ≡ h.turn.now) × (h.token.me.1 ≡ (0, None) ∷ []) × (h.token.me.0.heard ≡ []) × KeepsMachine M.script M.history M.flights h.token.me.0 h.machine h.called };
 }
 
 impl<M: Machine> Guard<'_, M> {

@@ -3,7 +3,7 @@
 ghost use Rattle.std.specs.Prelude.{◌≡◌, ℕ, ◌<◌, false, [], ◌∷◌, IfOk, MatchResult, Some};
 ghost use Rattle.un_facts.specs.Numbers.{one_if};
 ghost use Rattle.un_turn.specs.Steps.{opening_view, entered, lost, left, split_left, split_right, joined};
-ghost use Rattle.un_turn.specs.Views.{IsKept, IsOut, Follows, LostMore, StartsWith};
+ghost use Rattle.un_turn.specs.Views.{KeepsMachine, IsOut, Follows, LostMore, StartsWith};
 
 use crate::guard::{Guard, Held};
 use crate::rule::{Amount, Cuts, Enters, Leaves, Meets, Opening, TurnRule};
@@ -191,7 +191,7 @@ impl<M: Machine> Turn<M> {
     pub(crate) fn free<N: Amount>(&self, token: &mut Token<M>, _called: bool)
         requires turn { token.old.table_id ≡ self.now }
         requires pick { N.amount ≡ one_if _called }
-        requires held { (machine : M) × (token.old.me.1 ≡ (0, Some machine) ∷ []) × IsKept M.script M.history M.flights token.old.me.0 machine _called }
+        requires held { (machine : M) × (token.old.me.1 ≡ (0, Some machine) ∷ []) × KeepsMachine M.script M.history M.flights token.old.me.0 machine _called }
         ensures turn { (token.new.table_id ≡ token.old.table_id) × (token.new.id ≡ token.old.id) }
         ensures left { (machine : M) → token.old.me.1 ≡ (0, Some machine) ∷ [] → (token.new.me ≡ (left token.old.me.0 (one_if _called) (M.history machine) token.new.me.0.known, [])) × Follows token.old.me.0.flying (M.flights machine) token.old.me.0.known token.new.me.0.known }
     {

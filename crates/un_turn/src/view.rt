@@ -1,7 +1,7 @@
 //! What a seat knows.
 
 use std::collections::LinkedList;
-use un_journal::{Flight, Line};
+use un_journal::{FlightKey, Line};
 
 /// What a seat knows of its turn. No value of it is made: contracts alone speak of it. `S` is the type of
 /// the machine's script.
@@ -25,7 +25,7 @@ pub struct View<S> {
     /// Where it holds the turn, the machine's history when it entered.
     pub entry: LinkedList<(Line, LinkedList<u8>)>,
     /// The flights that were taken with it and are still out.
-    pub known: LinkedList<Flight>,
+    pub known: LinkedList<FlightKey>,
     /// Where it holds the turn, the flights that were out when it entered.
-    pub flying: LinkedList<Flight>,
+    pub flying: LinkedList<FlightKey>,
 }

@@ -4,7 +4,7 @@ use Rattle.un_journal.specs.Script.{Script}
 use Rattle.un_journal.specs.History.{History}
 use Rattle.un_journal.specs.Drain.{drain}
 use Rattle.un_journal.specs.Fits.{IsDone}
-use Rattle.un_journal.proofs.Drained.{drain_done}
+use Rattle.un_journal.proofs.Theorems.{drain_done}
 use Rattle.un_link.specs.Link.{Holds, Link, flights_of}
 use Rattle.un_link.proofs.Draining.{none_flies as link_flies}
 use Rattle.un_report.specs.declared.tally.Tally.{Tally}

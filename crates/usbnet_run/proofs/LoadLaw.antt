@@ -17,16 +17,14 @@ use Rattle.un_journal.specs.History.{History, past, concerns, taken, given, row_
 use Rattle.un_journal.specs.Lookup.{feed_head}
 use Rattle.un_journal.specs.Loss.{LosesNothing, is_take, accepted, good_frames}
 use Rattle.un_journal.specs.Fits.{IsDone}
-use Rattle.un_journal.proofs.Homes.{AllLane, lane_ruled}
-use Rattle.un_journal.proofs.Licences.{AllLicensed, legal_licensed}
-use Rattle.un_journal.proofs.NoLoss.{Whole, nothing_lost}
-use Rattle.un_journal.proofs.Ranges.{have_pools}
-use Rattle.un_journal.proofs.Rules.{legal_ruled}
+use Rattle.un_journal.specs.Rules.{AllLane}
+use Rattle.un_journal.proofs.Theorems.{lane_ruled, legal_licensed, Whole, nothing_lost, have_pools, legal_ruled}
+use Rattle.un_journal.specs.Licence.{AllLicensed}
 use Rattle.un_report.specs.Counts.{failed_datagrams, cut_datagrams, dropped_datagrams}
 use Rattle.un_script.specs.Load.{load_script, load_frame, load_feed, load_lane, load_sender, load_body, is_from, ADDRESSES}
-use Rattle.un_script.specs.Table.{defaults}
+use Rattle.un_frame.specs.Params.{defaults}
 use Rattle.un_script.proofs.Loads.{load_more, load_none, count_more}
-use Rattle.un_script.proofs.Ranges.{defaults_in_range}
+use Rattle.un_frame.proofs.Defaults.{defaults_in_range}
 use Rattle.usbnet_run.specs.Loads.{IsLossless}
 
 -- NOTHING IS LOST

@@ -10,9 +10,7 @@ use Rattle.un_journal.specs.Done.{NoneFlies}
 use Rattle.un_journal.specs.Fits.{IsDone, Legal}
 use Rattle.un_journal.specs.Log.{AreEntries}
 use Rattle.un_journal.specs.Loss.{LosesNothing}
-use Rattle.un_journal.proofs.Drained.{drain_done}
-use Rattle.un_journal.proofs.NoLoss.{nothing_lost}
-use Rattle.un_journal.proofs.Ranges.{have_pools}
+use Rattle.un_journal.proofs.Theorems.{drain_done, nothing_lost, have_pools}
 use Rattle.un_script.specs.Reading.{script_of}
 use Rattle.un_setup.specs.declared.agreement.Agreed.{Agreed}
 use Rattle.un_setup.specs.declared.agreement.SetupFault.{SetupFault}

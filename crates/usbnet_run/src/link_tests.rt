@@ -1,7 +1,7 @@
 //! A link of the real ends, one call after another: what each call answers, and the history that they leave.
 
 ghost use Rattle.std.specs.Prelude.{◌≡◌, [], IfOk};
-ghost use Rattle.un_journal.specs.declared.machine.Flight.{Flight};
+ghost use Rattle.un_journal.specs.declared.machine.FlightKey.{FlightKey};
 ghost use Rattle.un_journal.specs.Flights.{times};
 ghost use Rattle.un_link.specs.Link.{flights_of};
 
@@ -22,7 +22,7 @@ pub(crate) fn linked(alloc: Global, text: &[u8]) -> Result<Link, AllocError>
     let Ok(script) = read(alloc, text) else {
         return Err(AllocError);
     };
-    script.is_ready();
+    script.prove_ready();
     match agree(alloc, script.params()) {
         Ok(agreed) => Link::make(alloc, script, &agreed),
         Err(_) => Err(AllocError),
@@ -58,7 +58,7 @@ pub(crate) fn traces(
 
 /// Whether no flight of a lane is to be had, for this reason. One that is had all the same is landed, so as many are out as before.
 fn refuses_take(link: &mut Link, lane: Lane, wanted: Answer) -> bool
-    ensures { (x : Flight) → times x (flights_of link.new) ≡ times x (flights_of link.old) }
+    ensures { (x : FlightKey) → times x (flights_of link.new) ≡ times x (flights_of link.old) }
 {
     match link.take_flight(lane) {
         Got::Part(flight) => {

@@ -31,7 +31,7 @@ fn load_link(alloc: Global, count: u32) -> Result<Link, AllocError>
     ensures { IfOk result (λ link. (link.script ≡ load_script count) × (link.log.history ≡ []) × (flights_of link ≡ [])) }
 {
     let script = generate(alloc, count)?;
-    script.is_ready();
+    script.prove_ready();
     let Ok(agreed) = agree(alloc, script.params()) else {
         return Err(AllocError);
     };

@@ -37,7 +37,7 @@ pub fn prepare(alloc: Global, text: Vec<u8>) -> Result<Prepared, Refusal>
     ensures refused { IfErr result (Refuses text.items) }
 {
     let script = read_script(alloc, text)?;
-    script.is_ready();
+    script.prove_ready();
     let agreed = agree(alloc, script.params())?;
     let link = Link::make(alloc, script, &agreed)?;
     Ok(Prepared { link, agreed })

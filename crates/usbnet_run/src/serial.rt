@@ -30,7 +30,7 @@ pub fn print<O: Sink>(
     ensures entries { AreEntries journal.now.history }
     ensures never_falls { O.faults out.old ≤ O.faults out.new }
 {
-    journal.keeps_entries();
+    journal.prove_entries();
     write_trace(out, journal)?;
     un_report::write(out, script, agreed, journal)
 }

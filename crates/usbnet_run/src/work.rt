@@ -32,7 +32,7 @@ pub(crate) fn work<R: Threads + Wait + Sync, G: Gate + Sync>(
     let (turn, seat) = Turn::make(alloc, boxed, WORKERS)?;
     let seat = run_workers(rt, &turn, seat, gate);
     let mut link = Box::into_inner(turn.close(seat));
-    link.holds();
+    link.prove_holds();
     link.drain();
     Ok(link)
 }

@@ -31,7 +31,7 @@ impl<A: TxEnd + Drop, B: RxEnd + Drop, C: TxEnd + Drop, D: RxEnd + Drop> LinkOve
     pub(crate) fn control(&mut self, force: bool) -> Answer
         ensures { Steps self.old self.new (control self.old.script self.old.log.history force) result }
     {
-        let Some(due) = self.shared.script.control(self.shared.done) else {
+        let Some(due) = self.shared.script.control(self.shared.next_control) else {
             return Answer::NoControl;
         };
         let phase = self.shared.phase;
@@ -60,8 +60,8 @@ impl<A: TxEnd + Drop, B: RxEnd + Drop, C: TxEnd + Drop, D: RxEnd + Drop> LinkOve
         if count > 0 {
             return Answer::InFlight { count };
         }
-        self.shared.script.is_ready();
-        let index = self.shared.done;
+        self.shared.script.prove_ready();
+        let index = self.shared.next_control;
         let phase = phase_after(due.control, self.shared.phase);
         self.shared
             .journal
@@ -73,7 +73,7 @@ impl<A: TxEnd + Drop, B: RxEnd + Drop, C: TxEnd + Drop, D: RxEnd + Drop> LinkOve
             due.control,
         );
         self.shared.phase = phase;
-        self.shared.done = index + 1;
+        self.shared.next_control = index + 1;
         Answer::Did
     }
 

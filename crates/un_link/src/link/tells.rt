@@ -48,7 +48,7 @@ impl<A: TxEnd + Drop, B: RxEnd + Drop, C: TxEnd + Drop, D: RxEnd + Drop> LinkOve
     }
 
     /// What holds of each link: its history is legal, and all that it keeps is what the history says.
-    pub fn holds(&self)
+    pub fn prove_holds(&self)
         ensures { Holds self.now }
     {
         let _ = &self.shared;
@@ -88,7 +88,7 @@ impl<A: TxEnd + Drop, B: RxEnd + Drop, C: TxEnd + Drop, D: RxEnd + Drop> LinkOve
         ensures done { result ≡ true → IsDone self.now.script self.now.log.history }
         ensures finished { result ≡ true → IsFinished self.now.script self.now.log.history }
     {
-        self.quiet() && self.shared.done == self.shared.script.control_count()
+        self.quiet() && self.shared.next_control == self.shared.script.control_count()
     }
 
     /// Whether no offer would take or refuse a frame.

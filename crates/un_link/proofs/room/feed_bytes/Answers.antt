@@ -14,7 +14,7 @@ loop-index-preserved c =
 
 pub returns-after-loop-index : goal.returns-after-loop-index
 returns-after-loop-index c =
-    let few : length (frames_of c.args.script.now c.args.lane c.args.sender) ≤ 65536 = feed_few c.args.script.now c.args.lane c.args.sender c.is_ready.ensures in
+    let few : length (frames_of c.args.script.now c.args.lane c.args.sender) ≤ 65536 = feed_few c.args.script.now c.args.lane c.args.sender c.prove_ready.ensures in
     absurd (omega (arith, few, c.loop-index.invariant.within, c.loop-index-test.false))
 
 pub returns-in_default : goal.returns-in_default

@@ -25,4 +25,4 @@ pub returns-clause-prepared : goal.returns-clause-prepared
 returns-clause-prepared c =
     let agreed = rw c.params.ensures at c.in_ok-agreed.ensures in
     let new = c.in_ok-link.ensures in
-    prepared_of _ c.in_ok-script.script c.in_ok-link.link c.in_ok-agreed.agreed c.in_ok-script.ensures.script c.is_ready.ensures.in_range agreed.decides agreed.agreed new.0 new.1 new.3
+    prepared_of _ c.in_ok-script.script c.in_ok-link.link c.in_ok-agreed.agreed c.in_ok-script.ensures.script c.prove_ready.ensures.in_range agreed.decides agreed.agreed new.0 new.1 new.3

@@ -2,7 +2,7 @@ use Rattle.std.proofs.Common.{◌≡◌, ℕ, List, ◌++◌, sym, ◌∙◌, ap
 use Rattle.un_journal.specs.History.{History}
 use Rattle.un_journal.specs.Log.{AreEntries}
 use Rattle.un_journal.specs.Text.{trace}
-use Rattle.un_journal.proofs.TextUnique.{traces}
+use Rattle.un_journal.proofs.Theorems.{traces}
 use Rattle.un_report.specs.Report.{report}
 use Rattle.usbnet_run.specs.Top.{BeginsWithOutput, of_run, of_serial}
 use Rattle.usbnet_run.proofs.top.the_history_is_one.Goals as goal

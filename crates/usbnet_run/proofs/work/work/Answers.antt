@@ -10,4 +10,4 @@ returns-clause-kept g c =
     let is : c.into_inner-link.result ≡ c.close.result.value = c.into_inner-link.ensures in
     let plan = same_plan _ _ _ _ c.close.ensures.script (ap (λ (v : View Script). v.script) c.in_ok-turn.ensures.1) c.run_workers-seat.ensures.worked.script in
     kept_link c.args.link.script c.into_inner-link.result c.drain.new.self
-    (ap (λ (l : Link). l.script) is ∙ plan ∙ ap (λ (l : Link). l.script) c.in_ok-boxed.ensures.ok) c.holds.ensures (ap flights_of is ∙ c.close.ensures.none_out) c.drain.ensures.history
+    (ap (λ (l : Link). l.script) is ∙ plan ∙ ap (λ (l : Link). l.script) c.in_ok-boxed.ensures.ok) c.prove_holds.ensures (ap flights_of is ∙ c.close.ensures.none_out) c.drain.ensures.history

@@ -4,13 +4,13 @@ use Rattle.un_journal.specs.declared.actions.Answer.{Answer}
 use Rattle.un_journal.specs.declared.lines.Line.TheVariants.{Refused}
 use Rattle.un_journal.specs.History.{past}
 use Rattle.un_journal.specs.Lookup.{phase_of}
-use Rattle.un_journal.specs.LaneSteps.{lines_in, bare}
+use Rattle.un_journal.specs.LaneSteps.{bare}
 use Rattle.un_journal.specs.Step.{Work, offer_head}
-use Rattle.un_lane.specs.Way.{Adds, HasRoom}
+use Rattle.un_lane.specs.Way.{Adds}
 use Rattle.un_lane.specs.Answered.{UnlessDid}
 use Rattle.un_link.proofs.Offers.{cursor_small, feed_is, accept_is, accept_does, accept_advances, accept_stays, refuse_does, pushed}
 use Rattle.un_link.proofs.Unchanged.{always}
-use Rattle.un_link.proofs.Working.{idle_does}
+use Rattle.un_link.proofs.Working.{idle_does, plain_ready}
 use Rattle.un_link.proofs.half.Half.offer.Goals as goal
 
 pub returns-in_default : goal.returns-in_default
@@ -28,14 +28,14 @@ advance-requires g c = cursor_small c.args.self.now.read c.args.self.now.path.la
 pub advance-requires-in_default-verdict : goal.advance-requires-in_default-verdict
 advance-requires-in_default-verdict g c = cursor_small c.args.self.now.read c.args.self.now.path.lane c.args.shared.now.journal _ c.args.sender c.requires.ready.kept.read_is c.requires.ready.room
 
-pub offer-requires-clause-room : goal.offer-requires-clause-room
-offer-requires-clause-room g c =
+pub offer-requires-clause-ready : goal.offer-requires-clause-ready
+offer-requires-clause-ready g c =
     let k = c.requires.ready.kept in
     let script = c.args.shared.now.script in
     let head = feed_is script c.args.self.now.path.lane c.args.lane _ c.args.self.now.read c.args.sender c.at.result _ c.requires.lane k.read_is c.at.ensures c.in-Some.ensures in
     let told = subst (λ l. verdict_of script.params l c.in-Some.frame.now ≡ c.verdict.result) (sym c.requires.lane) (sym (rw c.params.ensures at c.verdict.ensures)) in
-    subst (λ o. HasRoom c.args.shared.now.journal (lines_in o))
-    (accept_is script c.args.shared.now.phase c.args.self.now.path c.args.shared.now.journal.history c.args.sender c.in-Some.frame.now k.keeps k.phase_is (search rules) head (told ∙ c.in-Take.is)) c.requires.ready.room
+    plain_ready (Work.Offer c.args.self.now.path.lane c.args.sender) _ c.args.shared.now c.args.self.now c.requires.ready
+    (sym (accept_is script c.args.shared.now.phase c.args.self.now.path c.args.shared.now.journal.history c.args.sender c.in-Some.frame.now k.keeps k.phase_is (search rules) head (told ∙ c.in-Take.is)))
 
 pub returns-in-Did : goal.returns-in-Did
 returns-in-Did g c =

@@ -1,7 +1,23 @@
 use Rattle.std.proofs.Common.{refl}
-use Rattle.un_journal.specs.Step.{TxDone, RxDone, Deliver}
-use Rattle.un_link.proofs.Working.{plain_does, tick_does, deliver_is}
+use Rattle.un_journal.specs.Step.{Work, TxDone, RxDone, Deliver}
+use Rattle.un_link.proofs.Working.{plain_does, plain_ready, tick_does, tick_is, deliver_is}
 use Rattle.un_link.proofs.half.Half.perform.Goals as goal
+
+pub tx_done-requires : goal.tx_done-requires
+tx_done-requires g c = plain_ready (TxDone c.args.self.now.path.lane) _ c.args.shared.now c.args.self.now (rw c.in-TxDone.is at c.requires.ready) refl
+
+pub rx_done-requires : goal.rx_done-requires
+rx_done-requires g c = plain_ready (RxDone c.args.self.now.path.lane) _ c.args.shared.now c.args.self.now (rw c.in-RxDone.is at c.requires.ready) refl
+
+pub deliver-requires : goal.deliver-requires
+deliver-requires g c =
+    plain_ready (Deliver c.args.self.now.path.lane) _ c.args.shared.now c.args.self.now (rw c.in-Deliver.is at c.requires.ready)
+    (deliver_is c.args.shared.now.script c.args.shared.now.phase c.args.self.now.path _ c.args.shared.now.journal.history c.requires.ready.kept.keeps)
+
+pub tick-requires-clause-ready : goal.tick-requires-clause-ready
+tick-requires-clause-ready g c =
+    plain_ready (Work.Tick c.args.self.now.path.lane) _ c.args.shared.now c.args.self.now (rw c.in-Tick.is at c.requires.ready)
+    (tick_is c.args.shared.now.script c.args.shared.now.phase c.args.self.now.path c.args.shared.now.journal.history c.requires.ready.kept.keeps)
 
 pub returns-in-TxDone : goal.returns-in-TxDone
 returns-in-TxDone g c =

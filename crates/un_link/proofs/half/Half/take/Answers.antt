@@ -5,9 +5,17 @@ use Rattle.un_journal.specs.History.{past}
 use Rattle.un_journal.specs.declared.got.Got.TheVariants.{Part, Cut, Not}
 use Rattle.un_lane.specs.Stands.{serial_of}
 use Rattle.un_lane.specs.Answered.{Answered}
-use Rattle.un_link.proofs.Working.{plain_goes}
+use Rattle.un_link.proofs.Working.{plain_goes, plain_ready}
 use Rattle.un_link.proofs.Takings.{take_is, part_came, cut_came, not_came}
 use Rattle.un_link.proofs.half.Half.take.Goals as goal
+
+pub take-requires : goal.take-requires
+take-requires g c =
+    let old = c.args.self.now.path in
+    let log = c.args.shared.now.journal in
+    let k = c.requires.ready.kept in
+    plain_ready (Work.Take old.lane) _ c.args.shared.now c.args.self.now c.requires.ready
+    (ap (λ a. take_queued a old.lane (past old.lane log.history) (map serial_of old.bus.queue)) c.sleeps.ensures ∙ sym (take_is c.args.shared.now.script c.args.shared.now.phase old log.history k.keeps k.phase_is))
 
 pub returns-in-Part : goal.returns-in-Part
 returns-in-Part g c =

@@ -4,5 +4,5 @@ use Rattle.un_link.proofs.link.LinkOver.make_over.Goals as goal
 
 pub invariant_of-result : goal.invariant_of-result
 invariant_of-result g c =
-    made_holds _ _ _ _ _ _ _ _ _ _ _ _ _ _ c.is_ready.ensures c.requires.agree c.requires.out c.requires.inward c.requires.out_params c.requires.in_params
+    made_holds _ _ _ _ _ _ _ _ _ _ _ _ _ _ c.prove_ready.ensures c.requires.agree c.requires.out c.requires.inward c.requires.out_params c.requires.in_params
     (search rules) (search rules) (search rules) (search rules) (search rules) (search rules) (search rules) (search rules) (search rules)

@@ -23,7 +23,7 @@ obey-requires-clause-room g c =
 
 pub overflow_add-self : goal.overflow_add-self
 overflow_add-self g c =
-    let b : c.self.inside.shared.done + 1 < 2 ^ 32 = index_small c.self.inside.shared.script.controls c.self.inside.shared.done c.args.due (ap (slice_get c.self.inside.shared.script.controls) c.self.invariant.done_is ∙ (rw (← c.self.view_is) at c.requires.head)) c.is_ready.ensures.controls in
+    let b : c.self.inside.shared.next_control + 1 < 2 ^ 32 = index_small c.self.inside.shared.script.controls c.self.inside.shared.next_control c.args.due (ap (slice_get c.self.inside.shared.script.controls) c.self.invariant.next_control_is ∙ (rw (← c.self.view_is) at c.requires.head)) c.prove_ready.ensures.controls in
     omega arith
 
 pub invariant_of-self : goal.invariant_of-self
