@@ -17,15 +17,15 @@ use Rattle.un_endpoint.specs.declared.outcome.Built.{Built}
 use Rattle.un_endpoint.specs.declared.outcome.Built.TheVariants as built
 use Rattle.un_agg.specs.Held.{Claim, Held, claim_of}
 use Rattle.un_agg.specs.Block.{IsTransfer}
-use Rattle.un_agg.specs.Building.{Adds, AddsKept, AddsMade, ClosesAtLimit, ClosesIfFull, StaysOpen, keeps_frame, with_frame}
+use Rattle.un_agg.specs.Building.{Adds, AddsKept, AddsMade, ClosesAtLimit, ClosesIfFull, StaysOpen, keeps_frame, span_closed, with_frame}
 
 -- a frame that fits an empty transfer is no longer than the capacity
 pub fits_capacity : (p : Params) (size : ℕ) → IsTrue (frame_fits p [] size) → size ≤ capacity_of p
 fits_capacity p size t = (laws_of p.class).within p size t
 
--- where the lane packs, frames fit together where the last fits the open transfer of those before
-pub fits_together : (lane : Lane) (p : Params) (frames : List (List ℕ)) (frame : List ℕ) → packs p.class lane ≡ true → frames_fit p (frames ++ frame ∷ []) ≡ frame_fits p (map length frames) (length frame)
-fits_together lane p frames frame e = ap (λ (ns : List ℕ). sizes_fit_as p.class p ns) (map_length_more frames frame) ∙ (laws_of p.class).together lane p (map length frames) (length frame) e
+-- where the lane packs, frames fit together where the last, which fits an empty transfer, fits the open one of those before
+pub fits_together : (lane : Lane) (p : Params) (frames : List (List ℕ)) (frame : List ℕ) → packs p.class lane ≡ true → IsTrue (frame_fits p [] (length frame)) → frames_fit p (frames ++ frame ∷ []) ≡ frame_fits p (map length frames) (length frame)
+fits_together lane p frames frame e alone = ap (λ (ns : List ℕ). sizes_fit_as p.class p ns) (map_length_more frames frame) ∙ (laws_of p.class).together lane p (map length frames) (length frame) e alone
 
 -- THE SPAN THAT A FRAME CLOSES
 
@@ -63,13 +63,13 @@ added_alone lane old new claim frame number serial request alone none claimed ma
     }
 
 -- a frame that doesn't fit: what was built is made, and the frame is left
-pub added_after : (lane : Lane) (old new : Held) (claim : Claim) (frame : List ℕ) (number serial : ℕ) (request : Buffer) → packs old.params.class lane ≡ true → 0 < length old.frames
+pub added_after : (lane : Lane) (old new : Held) (claim : Claim) (frame : List ℕ) (number serial : ℕ) (request : Buffer) → packs old.params.class lane ≡ true → IsTrue (frame_fits old.params [] (length frame)) → 0 < length old.frames
     → frame_fits old.params (map length old.frames) (length frame) ≡ false → number ≡ old.from + length old.frames
     → claim ≡ claim_of request → IsTransfer old.params old.frames old.from serial request → new ≡ record old { from = number; frames = frame ∷ []; claim = None; pending = 0 } → AddsMade lane old new claim frame number serial request
-added_after lane old new claim frame number serial request packed some full next claimed made is =
+added_after lane old new claim frame number serial request packed alone some full next claimed made is =
     let first : number - length old.frames ≡ old.from = omega arith in
     let count : number - old.from ≡ length old.frames = omega arith in
-    let fits = fits_together lane old.params old.frames frame packed ∙ full in
+    let fits = fits_together lane old.params old.frames frame packed alone ∙ full in
     record {
       span = (old.from, number);
       closed = rw first (span_before lane old.params (with_frame old frame) old.from number packed (omega arith) fits);
@@ -99,14 +99,14 @@ end_of_it : (number from size : ℕ) → (0 < size → number ≡ from + size) �
 end_of_it number from zero next = omega arith
 end_of_it number from (suc size) next = let at = next (omega arith) in omega (arith, at)
 
-module _ (old mid new : Held) (claim : Claim) (frame : List ℕ) (number serial : ℕ) (packed : packs old.params.class Outward ≡ true) (fits : 0 < length old.frames → frame_fits old.params (map length old.frames) (length frame) ≡ true) (next : 0 < length old.frames → number ≡ old.from + length old.frames) (mid_is : mid ≡ record old { from = number - length old.frames; frames = with_frame old frame; claim = Some claim }) where
+module _ (old mid new : Held) (claim : Claim) (frame : List ℕ) (number serial : ℕ) (packed : packs old.params.class Outward ≡ true) (alone : IsTrue (frame_fits old.params [] (length frame))) (fits : 0 < length old.frames → frame_fits old.params (map length old.frames) (length frame) ≡ true) (next : 0 < length old.frames → number ≡ old.from + length old.frames) (mid_is : mid ≡ record old { from = number - length old.frames; frames = with_frame old frame; claim = Some claim }) where
   count : number + 1 - (number - length old.frames) ≡ length (with_frame old frame)
   count = count_of number old.from (length old.frames) next ∙ (let long = length-append old.frames (frame ∷ []) in omega (arith, long))
 
   not_cut : (nat_lt (number - length old.frames) number && not (frames_fit old.params (with_frame old frame))) ≡ false
   not_cut = not_both (nat_lt (number - length old.frames) number) (frames_fit old.params (with_frame old frame)) (λ less.
       let l : number - length old.frames < number = ltb-true _ _ less in
-      fits_together Outward old.params old.frames frame packed ∙ fits (omega arith))
+      fits_together Outward old.params old.frames frame packed alone ∙ fits (omega arith))
 
   stays : StaysOpen mid new → AddsKept old new claim frame number
   stays s =
@@ -150,3 +150,19 @@ pub not_kept : (held : Held) (frame : List ℕ) → packs held.params.class Inwa
 not_kept held frame packed closes =
     let both = not_kept_as held.frames (packs held.params.class Inward) (frame_fits held.params (map length held.frames) (length frame)) packed closes in
     record { some = both.0; full = both.1 }
+
+-- a frame that a gadget's builder keeps closes nothing
+keeps_as : (frames : List (List ℕ)) (packed fits : Bool) → (packed && (is_empty frames || fits)) ≡ true → (packed ≡ true) × (0 < length frames → fits ≡ true)
+keeps_as [] true fits e = (refl, λ some. absurd (omega (arith, some)))
+keeps_as (x ∷ xs) true fits e = (refl, λ some. e)
+keeps_as frames false fits e = absurd (false≢true e)
+
+pub kept_open : (held : Held) (frame : List ℕ) (number : ℕ) → keeps_frame held (length frame) ≡ true → IsTrue (frame_fits held.params [] (length frame)) → span_closed Inward held frame number ≡ None
+kept_open held frame number keeps alone =
+    let k = keeps_as held.frames (packs held.params.class Inward) (frame_fits held.params (map length held.frames) (length frame)) keeps in
+    let first = number - length held.frames in
+    span_none Inward held.params (with_frame held frame) first number k.0
+    (not_both (nat_lt first number) (frames_fit held.params (with_frame held frame)) (λ less.
+    let l : first < number = ltb-true _ _ less in
+    fits_together Inward held.params held.frames frame k.0 alone ∙ k.1 (omega arith)))
+    refl

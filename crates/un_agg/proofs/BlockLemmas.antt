@@ -9,6 +9,7 @@ use Rattle.un_frame.specs.Wire.{Coding, IsOpen, FitInTurn, frame_fits, capacity_
 use Rattle.un_frame.proofs.PartLemmas.{open_frames_found}
 use Rattle.un_frame.proofs.FrameLemmas.{open_grows}
 use Rattle.un_frame.proofs.WireLemmas.{form_is_read, fit_last}
+use Rattle.un_wire.proofs.OpenSteps.{begun as opened}
 use Rattle.un_req.specs.Request.{Buffer}
 use Rattle.un_wire.specs.Codings.{coding_of}
 use Rattle.un_wire.specs.declared.codec.Codec.{Codec}
@@ -52,13 +53,6 @@ grown coding r frames opened o some least fit room =
       claim_is = refl;
       frames_are = found;
     }
-
--- a transfer that was opened
-opened : (old new : Coding) (before after : Buffer) → new ≡ record old { sizes = []; is_open = true } → after ≡ record before { bytes = open_form old.params [] } → IsOpen new.params new.sizes after.bytes []
-opened old new before after k r = record {
-  lengths = sym (ap (λ (c : Coding). c.sizes) k);
-  so_far = ap (λ (b : Buffer). b.bytes) r ∙ ap (λ (p : Params). open_form p []) (sym (ap (λ (c : Coding). c.params) k));
-}
 
 -- the first frame
 pub begun : (old mid new : Coding) (before opening after : Buffer) (frame : List ℕ) → mid ≡ record old { sizes = []; is_open = true } → opening ≡ record before { bytes = open_form old.params [] }

@@ -2,6 +2,7 @@
 use Rattle.std.specs.Prelude.{◌≡◌, ℕ, ◌+◌, ◌<◌, ◌≤◌, ◌^◌, true, List, [], ◌∷◌, length, Option, None, Some}
 use Rattle.un_frame.specs.declared.params.Lane.TheVariants.{Inward}
 use Rattle.un_frame.specs.Lanes.{packs}
+use Rattle.un_frame.specs.Params.{AreInRange, Agree}
 use Rattle.un_frame.specs.Wire.{capacity_of}
 use Rattle.un_req.specs.Request.{Store}
 use Rattle.un_agg.specs.Held.{Claim, Held}
@@ -17,6 +18,8 @@ IsPrivate None frames own = (frames ≡ []) × (own.home ≡ 0 ∷ [])
 IsPrivate (Some claim) frames own = (0 < length frames) × (own.home ≡ []) × (claim ≡ record { number = 0; capacity = own.capacity })
 
 pub record IsGadget (a : Inside) : Type 0 where
+  pub in_range : AreInRange a.block.params
+  pub agree : Agree a.block.params
   pub private : IsPrivate a.block.claim a.block.frames a.own
   pub one : a.own.count ≡ 1
   pub small : capacity_of a.block.params < 2 ^ 32

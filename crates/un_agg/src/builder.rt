@@ -33,7 +33,7 @@ pub trait Builder: Sized {
         requires limit { limit ≡ (coding_of codec).params.datagrams }
         ensures { IfOk result (λ builder. held builder ≡ nothing_held (coding_of codec).params) };
 
-    /// Whether an offer of a frame of `length` bytes would not answer `Busy`.
+    /// Whether an offer of a frame of `length` bytes, a segment at most, would not answer `Busy`.
     fn can_offer(&self, pool: &Pool, length: u32) -> bool
         ensures { CanOffer (end_of LANE (held self.now) pool.now) length result };
 

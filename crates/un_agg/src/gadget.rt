@@ -16,7 +16,7 @@ use un_frame::Lane;
 use un_req::{Pool, Request};
 use un_wire::{Codec, Wire};
 
-/// Builds the gadget's transfers (after Linux's f_ncm): it holds an open block in a request of its own, or nothing, and the code copies a closed block once, into a request of the lane's pool. No
+/// Builds the gadget's transfers (after Linux's f_ncm, in EEM too): it holds an open block in a request of its own, or nothing, and the code copies a closed block once, into a request of the lane's pool. No
 /// call after `make` takes memory.
 #[derive(Drop)]
 pub struct GadWrap {
@@ -162,7 +162,7 @@ impl GadWrap {
         self.from = number;
     }
 
-    /// Takes a frame that doesn't stay in the open block: what is open is closed in a home request, and a block begins with the frame. A class that packs one frame into a transfer makes it in the home
+    /// Takes a frame that doesn't stay in the open block: what is open is closed in a home request, and a block begins with the frame. Where the lane packs one frame into a transfer, it is made in the home
     /// request itself.
     fn make_room(&mut self, request: Request, frame: &[u8], number: u64, serial: u64) -> Request
         requires closes { keeps_frame self.old (length frame.now) ≡ false }

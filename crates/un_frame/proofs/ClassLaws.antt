@@ -59,5 +59,5 @@ pub record ClassLaws (rules : Rules) : Type 0 where
   pub segment : (p : Params) (size : ℕ) → 0 < p.alignment → rules.agree p → size ≤ p.segment → IsTrue (rules.fits p [] size)
   -- what fits an empty transfer is within the capacity
   pub within : (p : Params) (size : ℕ) → IsTrue (rules.fits p [] size) → size ≤ rules.capacity p
-  -- where a lane packs, frames fit together where the last fits behind the others
-  pub together : (lane : Lane) (p : Params) (sizes : List ℕ) (size : ℕ) → rules.packs lane ≡ true → rules.fits_together p (sizes ++ size ∷ []) ≡ rules.fits p sizes size
+  -- where a lane packs, frames fit together where the last, which fits an empty transfer, fits behind the others
+  pub together : (lane : Lane) (p : Params) (sizes : List ℕ) (size : ℕ) → rules.packs lane ≡ true → IsTrue (rules.fits p [] size) → rules.fits_together p (sizes ++ size ∷ []) ≡ rules.fits p sizes size

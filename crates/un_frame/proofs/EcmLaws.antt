@@ -6,11 +6,11 @@ use Rattle.std.proofs.lemmas.List.Sums.{sum_by-cons}
 use Rattle.std.specs.List.{concat, sum_by}
 use Rattle.un_frame.specs.declared.params.Params.{Params}
 use Rattle.un_frame.specs.Bytes.{Place, slice_at}
-use Rattle.un_frame.specs.Classes.{ecm, fits_alone}
+use Rattle.un_frame.specs.Classes.{ecm}
 use Rattle.un_frame.specs.Places.{spaced_places}
 use Rattle.un_frame.specs.Wire.{InTurn}
 use Rattle.un_frame.proofs.ClassLaws.{AreLong, AreParts, ClassLaws, IsReadBack}
-use Rattle.un_frame.proofs.FrameSizes.{one_alone, slices-spaced, weight}
+use Rattle.un_frame.proofs.FrameSizes.{slices-spaced, weight}
 
 concat-short : (frames : List (List ℕ)) → length (concat frames) ≤ sum_by weight frames
 concat-short [] = omega arith
@@ -33,7 +33,13 @@ frame_read frame most least within = rw (append-nil frame) (record {
   within = within;
 })
 
-frames_read : (p : Params) (frames : List (List ℕ)) → 1 ≤ length frames → AreLong frames → InTurn (fits_alone p) [] (map length frames) → IsReadBack ecm (concat frames) frames p.segment
+-- where one frame fits a transfer, frames that fit one after the other are one
+one_alone : (p : Params) (frames : List (List ℕ)) → 1 ≤ length frames → InTurn (ecm.fits p) [] (map length frames) → (frame : List ℕ) × (frames ≡ frame ∷ []) × (length frame ≤ p.segment)
+one_alone p [] some h = absurd (omega (arith, some))
+one_alone p (x ∷ []) some h = (x, refl, grind (arith, nat_tests, h.0))
+one_alone p (x ∷ y ∷ rest) some h = absurd (false≢true h.1.0)
+
+frames_read : (p : Params) (frames : List (List ℕ)) → 1 ≤ length frames → AreLong frames → InTurn (ecm.fits p) [] (map length frames) → IsReadBack ecm (concat frames) frames p.segment
 frames_read p frames some long fits =
     let one = one_alone p frames some fits in
     subst (λ (fs : List (List ℕ)). IsReadBack ecm (concat fs) fs p.segment) (sym one.1) (frame_read one.0 p.segment (subst AreLong one.1 long).0 one.2)
@@ -49,8 +55,8 @@ ecm_laws = record {
   read = λ p serial frames block segment some long fits. frames_read p frames some long fits;
   short = λ p serial frames range some. concat-short frames;
   some = λ p serial frame rest long. let whole = length-append frame (concat rest) in omega (arith, whole, long);
-  found = λ p frames. ap (λ (xs : List ℕ). map (slice_at xs) (spaced_places 0 0 0 (map length frames))) (concat-spaced frames) ∙ slices-spaced 0 0 (λ x. []) [] (λ x. refl) refl frames [];
+  found = λ p frames. ap (λ (xs : List ℕ). map (slice_at xs) (spaced_places 0 0 0 (map length frames))) (concat-spaced frames) ∙ slices-spaced 0 0 (λ x. []) [] (λ x. refl) refl frames;
   segment = λ p size some agree low. grind (arith, nat_tests);
   within = λ p size t. grind (arith, nat_tests);
-  together = λ lane p sizes size packed. absurd (false≢true packed);
+  together = λ lane p sizes size packed alone. absurd (false≢true packed);
 }

@@ -1,19 +1,21 @@
 -- The laws of EEM.
-use Rattle.std.proofs.Common.{◌≡◌, ℕ, zero, suc, ◌+◌, ◌*◌, ◌%◌, ◌<◌, ◌≤◌, ◌==◌, Bool, true, false, nat_le, if◌then◌else◌, List, [], ◌∷◌, ◌++◌, length, take, drop, map, flat_map, refl, sym, ap, ◌∙◌, subst, arith, append-nil, append_assoc, length-append, take_at, drop_at}
-use Rattle.std.proofs.lemmas.Bool.{false≢true}
+use Rattle.std.proofs.Common.{◌≡◌, ℕ, zero, suc, ◌+◌, ◌*◌, ◌%◌, ◌<◌, ◌≤◌, ◌==◌, ◌&&◌, ◌||◌, Bool, true, false, nat_le, max, if◌then◌else◌, List, [], ◌∷◌, ◌++◌, length, take, drop, map, flat_map, IsTrue, refl, sym, ap, ◌∙◌, subst, arith, append-nil, append_assoc, length-append}
+use Rattle.std.proofs.lemmas.Bool.{and_parts, leb-true}
 use Rattle.std.proofs.lemmas.Bool.Decides.{nat_tests}
+use Rattle.std.proofs.lemmas.List.{length-map}
 use Rattle.std.proofs.lemmas.List.Sums.{sum_by-cons}
+use Rattle.std.proofs.Math.Nat.{le-max_right}
 use Rattle.std.specs.List.{AllByRecursion, sum_by}
 use Rattle.un_frame.specs.declared.params.Params.{Params}
-use Rattle.un_frame.specs.Bytes.{number_at, number_bytes}
-use Rattle.un_frame.specs.Classes.{eem, fits_alone}
-use Rattle.un_frame.specs.Eem.{Packet, Data, Command, Empty, SENTINEL, IsPacket, packet_bytes, frame_places, command_count, is_data, packet_size, eem_form}
-use Rattle.un_frame.specs.Places.{eem_places}
+use Rattle.un_frame.specs.Bytes.{Place, number_at, number_bytes, slice_at}
+use Rattle.un_frame.specs.Classes.{eem, eem_capacity}
+use Rattle.un_frame.specs.Eem.{Packet, Data, Command, Empty, SENTINEL, IsPacket, packet_bytes, frame_places, command_count, is_data, packet_size, packets_size, packets_fit, eem_form}
+use Rattle.un_frame.specs.Places.{eem_places, spaced_places}
 use Rattle.un_frame.specs.Wire.{InTurn}
 use Rattle.un_frame.proofs.ClassLaws.{AreLong, AreParts, ClassLaws, IsReadBack}
 use Rattle.un_frame.proofs.EemLemmas.{eem_sound, eem_exact, one_spelling}
 use Rattle.un_frame.proofs.EemPlaces.{walk_places}
-use Rattle.un_frame.proofs.FrameSizes.{one_alone, one_more, none_or, slices-spaced, weight}
+use Rattle.un_frame.proofs.FrameSizes.{fit_together, one_more, none_or, slices-between, slices-spaced, weight}
 use Rattle.un_frame.proofs.NtbFormLemmas.{length-number_bytes}
 
 -- READING
@@ -42,13 +44,6 @@ packets_few (suc left) bytes at =
 
 -- WRITING
 
--- a frame as the slice of its packet
-eem_slice : (frame rest : List ℕ) → take (length frame) (drop 2 ((number_bytes 2 (length frame + 4) ++ frame ++ SENTINEL) ++ rest)) ≡ frame
-eem_slice frame rest =
-    let n = number_bytes 2 (length frame + 4) in
-    let grouped : (n ++ frame ++ SENTINEL) ++ rest ≡ n ++ (frame ++ (SENTINEL ++ rest)) = simp append_assoc in
-    ap (λ (xs : List ℕ). take (length frame) (drop 2 xs)) grouped ∙ ap (take (length frame)) (drop_at n (frame ++ (SENTINEL ++ rest)) 2 (length-number_bytes 2 (length frame + 4))) ∙ take_at frame (SENTINEL ++ rest) (length frame) refl
-
 -- the empty packet at the end is short
 pub padded-short : (packets : List ℕ) (b : Bool) → length (packets ++ (if b then packet_bytes Empty else [])) ≤ length packets + 2
 padded-short packets true = simp (length-append, length-number_bytes) (omega arith)
@@ -57,39 +52,82 @@ padded-short packets false = simp length-append (omega arith)
 data_long : (frame : List ℕ) → length (packet_bytes (Data frame)) ≡ length frame + 6
 data_long frame = simp (length-append, length-number_bytes) (omega arith)
 
--- a frame's packet, with the empty one behind it or not, is read as the frame
-packet_read : (frame : List ℕ) (b : Bool) (segment : ℕ) → 14 ≤ length frame → length frame ≤ 8192 → length frame ≤ segment → IsReadBack eem (packet_bytes (Data frame) ++ (if b then packet_bytes Empty else [])) (frame ∷ []) (segment + 8)
-packet_read frame true segment least most within = record {
-  places = record { at = 2; size = length frame } ∷ [];
-  found = record {
-    packets = Data frame ∷ Empty ∷ [];
-    sound = ((least, omega (arith, most)), (tt, tt));
-    spelled = ap (λ (xs : List ℕ). packet_bytes (Data frame) ++ xs) (sym (append-nil (packet_bytes Empty)));
-    frames = refl;
-    counted = refl;
-  };
-  sliced = ap (λ (x : List ℕ). x ∷ []) (sym (eem_slice frame (packet_bytes Empty)));
-  within = let short = padded-short (packet_bytes (Data frame)) true in let long = data_long frame in omega (arith, short, long, within);
-}
-packet_read frame false segment least most within = record {
-  places = record { at = 2; size = length frame } ∷ [];
-  found = record {
-    packets = Data frame ∷ [];
-    sound = ((least, omega (arith, most)), tt);
-    spelled = refl;
-    frames = refl;
-    counted = refl;
-  };
-  sliced = ap (λ (x : List ℕ). x ∷ []) (sym (eem_slice frame []));
-  within = let short = padded-short (packet_bytes (Data frame)) false in let long = data_long frame in omega (arith, short, long, within);
-}
+-- the packets of frames, with the empty one behind them or not
+abbrev data_of : List (List ℕ) → Bool → List Packet
+data_of [] true = Empty ∷ []
+data_of [] false = []
+data_of (frame ∷ rest) b = Data frame ∷ data_of rest b
 
-packets_read : (p : Params) (frames : List (List ℕ)) → p.segment ≤ 8192 → 1 ≤ length frames → AreLong frames → InTurn (fits_alone p) [] (map length frames) → IsReadBack eem (eem_form p.packet frames) frames (p.segment + 8)
-packets_read p frames segment some least fits =
-    let one = one_alone p frames some fits in
-    let long = (subst AreLong one.1 least).0 in
-    subst (λ (fs : List (List ℕ)). IsReadBack eem (eem_form p.packet fs) fs (p.segment + 8)) (sym one.1)
-    (rw (append-nil (packet_bytes (Data one.0))) (packet_read one.0 (length (packet_bytes (Data one.0)) % p.packet == 0) p.segment long (omega (arith, one.2, segment)) one.2))
+data_spelled : (frames : List (List ℕ)) (b : Bool) → flat_map (λ frame. packet_bytes (Data frame)) frames ++ (if b then packet_bytes Empty else []) ≡ flat_map packet_bytes (data_of frames b)
+data_spelled [] true = sym (append-nil (packet_bytes Empty))
+data_spelled [] false = refl
+data_spelled (x ∷ xs) b =
+    append_assoc (packet_bytes (Data x)) (flat_map (λ frame. packet_bytes (Data frame)) xs) (if b then packet_bytes Empty else [])
+    ∙ ap (λ (ys : List ℕ). packet_bytes (Data x) ++ ys) (data_spelled xs b)
+
+data_sound : (most : ℕ) (frames : List (List ℕ)) (b : Bool) → most ≤ 8192 → AreLong frames → AllByRecursion (λ size. size ≤ most) (map length frames) → AllByRecursion IsPacket (data_of frames b)
+data_sound most [] true low long small = (tt, tt)
+data_sound most [] false low long small = tt
+data_sound most (x ∷ xs) b low long small = ((long.0, let first = small.0 in omega (arith, low, first)), data_sound most xs b low long.1 small.1)
+
+data_places : (at : ℕ) (frames : List (List ℕ)) (b : Bool) → spaced_places 2 4 at (map length frames) ≡ frame_places at (data_of frames b)
+data_places at [] true = refl
+data_places at [] false = refl
+data_places at (x ∷ xs) b =
+    let next : at + 2 + length x + 4 ≡ at + length x + 6 = omega arith in
+    ap (λ (places : List Place). record { at = at + 2; size = length x } ∷ places) (ap (λ (n : ℕ). spaced_places 2 4 n (map length xs)) next ∙ data_places (at + length x + 6) xs b)
+
+data_only : (frames : List (List ℕ)) (b : Bool) → 0 ≡ command_count (data_of frames b)
+data_only [] true = refl
+data_only [] false = refl
+data_only (x ∷ xs) b = data_only xs b
+
+-- the packets of frames have the bytes that the frames' sizes say
+pub data_size : (frames : List (List ℕ)) → length (flat_map (λ frame. packet_bytes (Data frame)) frames) ≡ packets_size (map length frames)
+data_size [] = refl
+data_size (x ∷ xs) =
+    let ih = data_size xs in
+    let packet = data_long x in
+    let long = length-append (packet_bytes (Data x)) (flat_map (λ frame. packet_bytes (Data frame)) xs) in
+    let sum : packets_size (length x ∷ map length xs) ≡ length x + 6 + packets_size (map length xs) = sum_by-cons (λ size. size + 6) (length x) (map length xs) in
+    omega (arith, ih, packet, long, sum)
+
+-- frames that fit in turn have a segment each at most
+turn_small : (p : Params) (before sizes : List ℕ) → InTurn (eem.fits p) before sizes → AllByRecursion (λ size. size ≤ p.segment) sizes
+turn_small p before [] fits = tt
+turn_small p before (x ∷ xs) fits =
+    (leb-true x p.segment (and_parts (nat_le x p.segment) (packets_fit (eem_capacity p) p.datagrams (before ++ x ∷ [])) fits.0).0, turn_small p (before ++ x ∷ []) xs fits.1)
+
+-- packets that fit have room for an empty one behind them
+pub fit_within : (most limit : ℕ) (sizes : List ℕ) → packets_fit most limit sizes ≡ true → packets_size sizes + 2 ≤ most
+fit_within most limit sizes fits = leb-true (packets_size sizes + 2) most (and_parts (nat_le (packets_size sizes + 2) most) ((limit == 0) || nat_le (length sizes) limit) fits).0
+
+packets_within : (p : Params) (frames : List (List ℕ)) → 1 ≤ length frames → InTurn (eem.fits p) [] (map length frames) → length (eem_form p.packet frames) ≤ eem_capacity p
+packets_within p frames some fits =
+    let t = fit_together (eem.fits p) (map length frames) (rw (length-map frames (λ (x : List ℕ). length x)) some) fits in
+    let together = (and_parts (nat_le t.1 p.segment) (packets_fit (eem_capacity p) p.datagrams (t.0 ++ t.1 ∷ [])) t.3).1 in
+    let within = fit_within (eem_capacity p) p.datagrams (map length frames) (ap (packets_fit (eem_capacity p) p.datagrams) t.2 ∙ together) in
+    let packets = flat_map (λ frame. packet_bytes (Data frame)) frames in
+    let size = data_size frames in
+    let padded = padded-short packets (length packets % p.packet == 0) in
+    omega (arith, within, size, padded)
+
+packets_read : (p : Params) (frames : List (List ℕ)) → p.segment ≤ 8192 → 1 ≤ length frames → AreLong frames → InTurn (eem.fits p) [] (map length frames) → IsReadBack eem (eem_form p.packet frames) frames (eem_capacity p)
+packets_read p frames segment some long fits =
+    let packets = flat_map (λ frame. packet_bytes (Data frame)) frames in
+    let b = length packets % p.packet == 0 in
+    record {
+      places = spaced_places 2 4 0 (map length frames);
+      found = record {
+        packets = data_of frames b;
+        sound = data_sound p.segment frames b segment long (turn_small p [] (map length frames) fits);
+        spelled = data_spelled frames b;
+        frames = data_places 0 frames b;
+        counted = data_only frames b;
+      };
+      sliced = sym (slices-between 2 4 (λ x. number_bytes 2 (length x + 4)) SENTINEL (λ x. length-number_bytes 2 (length x + 4)) refl frames [] (if b then packet_bytes Empty else []));
+      within = packets_within p frames some fits;
+    }
 
 packets-short : (frames : List (List ℕ)) → length (flat_map (λ frame. packet_bytes (Data frame)) frames) + 186 * length frames ≤ sum_by weight frames
 packets-short [] = omega arith
@@ -117,6 +155,23 @@ form_some packet frame rest =
     let long = data_long frame in
     omega (arith, padded, parts, long)
 
+-- WHAT FITS
+
+-- a frame that fits an empty transfer has a segment at most
+alone_low : (p : Params) (size : ℕ) → IsTrue (eem.fits p [] size) → nat_le size p.segment ≡ true
+alone_low p size t = (and_parts (nat_le size p.segment) (packets_fit (eem_capacity p) p.datagrams (size ∷ [])) t).0
+
+segment_fits : (p : Params) (size : ℕ) → size ≤ p.segment → IsTrue (eem.fits p [] size)
+segment_fits p size low =
+    let room = le-max_right p.block (p.segment + 8) in
+    grind (arith, nat_tests, room)
+
+alone_within : (p : Params) (size : ℕ) → IsTrue (eem.fits p [] size) → size ≤ eem_capacity p
+alone_within p size t =
+    let low = leb-true size p.segment (alone_low p size t) in
+    let room = le-max_right p.block (p.segment + 8) in
+    omega (arith, low, room)
+
 pub eem_laws : ClassLaws eem
 eem_laws = record {
   exact = λ bytes small. (eem_sound bytes small, λ r. eem_exact bytes r.0 r.1 r.2);
@@ -132,8 +187,8 @@ eem_laws = record {
   read = λ p serial frames block segment some long fits. packets_read p frames segment some long fits;
   short = λ p serial frames range some. form-short p.packet frames some;
   some = λ p serial frame rest long. form_some p.packet frame rest;
-  found = λ p frames. slices-spaced 2 4 (λ x. number_bytes 2 (length x + 4)) SENTINEL (λ x. length-number_bytes 2 (length x + 4)) refl frames [];
-  segment = λ p size some agree low. grind (arith, nat_tests);
-  within = λ p size t. grind (arith, nat_tests);
-  together = λ lane p sizes size packed. absurd (false≢true packed);
+  found = λ p frames. slices-spaced 2 4 (λ x. number_bytes 2 (length x + 4)) SENTINEL (λ x. length-number_bytes 2 (length x + 4)) refl frames;
+  segment = λ p size some agree low. segment_fits p size low;
+  within = λ p size t. alone_within p size t;
+  together = λ lane p sizes size packed alone. rw (alone_low p size alone) refl;
 }

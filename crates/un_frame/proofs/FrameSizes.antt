@@ -1,22 +1,12 @@
 -- Sizes and places of frames that several classes' laws share.
 use Rattle.std.proofs.Common.{◌≡◌, ℕ, suc, ◌+◌, ◌≤◌, Bool, true, false, if◌then◌else◌, List, [], ◌∷◌, ◌++◌, length, take, drop, map, flat_map, refl, sym, ap, ◌∙◌, IsTrue, subst, arith, append-nil, append_assoc, length-append, take_at, drop_at}
-use Rattle.std.proofs.lemmas.Bool.{false≢true}
-use Rattle.std.proofs.lemmas.Bool.Decides.{nat_tests}
-use Rattle.un_frame.specs.declared.params.Params.{Params}
 use Rattle.un_frame.specs.Bytes.{Place, slice_at}
-use Rattle.un_frame.specs.Classes.{fits_alone}
 use Rattle.un_frame.specs.Places.{spaced_places}
 use Rattle.un_frame.specs.Wire.{InTurn}
 
 -- what a frame may take in a transfer
 abbrev pub weight : List ℕ → ℕ
 weight frame = length frame + 192
-
--- where one frame fits a transfer, frames that fit one after the other are one
-pub one_alone : (p : Params) (frames : List (List ℕ)) → 1 ≤ length frames → InTurn (fits_alone p) [] (map length frames) → (frame : List ℕ) × (frames ≡ frame ∷ []) × (length frame ≤ p.segment)
-one_alone p [] some h = absurd (omega (arith, some))
-one_alone p (x ∷ []) some h = (x, refl, grind (arith, nat_tests, h.0))
-one_alone p (x ∷ y ∷ rest) some h = absurd (false≢true h.1.0)
 
 -- one frame more that fits behind the others
 pub turn_last : (fits : List ℕ → ℕ → Bool) (before sizes : List ℕ) (size : ℕ) → InTurn fits before sizes → IsTrue (fits (before ++ sizes) size) → InTurn fits before (sizes ++ size ∷ [])
@@ -49,17 +39,22 @@ pub none_or : (b : Bool) (rest : List Place) (n : ℕ) → length rest ≤ n →
 none_or true rest n few = omega arith
 none_or false rest n few = few
 
--- frames that are put one after the other with something before and after each stand at the spaced places
-pub slices-spaced : (before after : ℕ) (head : List ℕ → List ℕ) (tail : List ℕ) → ((x : List ℕ) → length (head x) ≡ before) → length tail ≡ after → (frames : List (List ℕ)) (front : List ℕ) → map (slice_at (front ++ flat_map (λ x. (head x ++ x) ++ tail) frames)) (spaced_places before after (length front) (map length frames)) ≡ frames
-slices-spaced before after head tail heads tails [] front = refl
-slices-spaced before after head tail heads tails (x ∷ xs) front =
+-- frames that are put one after the other with something before and after each stand at the spaced places, whatever follows
+pub slices-between : (before after : ℕ) (head : List ℕ → List ℕ) (tail : List ℕ) → ((x : List ℕ) → length (head x) ≡ before) → length tail ≡ after → (frames : List (List ℕ)) (front back : List ℕ) → map (slice_at (front ++ (flat_map (λ x. (head x ++ x) ++ tail) frames ++ back))) (spaced_places before after (length front) (map length frames)) ≡ frames
+slices-between before after head tail heads tails [] front back = refl
+slices-between before after head tail heads tails (x ∷ xs) front back =
     let piece = (head x ++ x) ++ tail in
     let rest = flat_map (λ y. (head y ++ y) ++ tail) xs in
-    let block = front ++ (piece ++ rest) in
-    let parted : block ≡ (front ++ head x) ++ (x ++ (tail ++ rest)) = simp append_assoc in
+    let block = front ++ ((piece ++ rest) ++ back) in
+    let parted : block ≡ (front ++ head x) ++ (x ++ (tail ++ (rest ++ back))) = simp append_assoc in
     let at : length (front ++ head x) ≡ length front + before = length-append front (head x) ∙ ap (λ (n : ℕ). length front + n) (heads x) in
-    let first : take (length x) (drop (length front + before) block) ≡ x = ap (λ (ys : List ℕ). take (length x) (drop (length front + before) ys)) parted ∙ ap (take (length x)) (drop_at (front ++ head x) (x ++ (tail ++ rest)) (length front + before) at) ∙ take_at x (tail ++ rest) (length x) refl in
-    let regrouped : block ≡ (front ++ piece) ++ rest = sym (append_assoc front piece rest) in
+    let first : take (length x) (drop (length front + before) block) ≡ x = ap (λ (ys : List ℕ). take (length x) (drop (length front + before) ys)) parted ∙ ap (take (length x)) (drop_at (front ++ head x) (x ++ (tail ++ (rest ++ back))) (length front + before) at) ∙ take_at x (tail ++ (rest ++ back)) (length x) refl in
+    let regrouped : block ≡ (front ++ piece) ++ (rest ++ back) = simp append_assoc in
     let long : length front + before + length x + after ≡ length (front ++ piece) = sym (simp length-append (let h = heads x in omega (arith, h, tails))) in
-    let ih = slices-spaced before after head tail heads tails xs (front ++ piece) in
-    rw first (ap (λ (fs : List (List ℕ)). x ∷ fs) (ap (λ (ys : List ℕ). map (slice_at ys) (spaced_places before after (length front + before + length x + after) (map length xs))) regrouped ∙ ap (λ (n : ℕ). map (slice_at ((front ++ piece) ++ rest)) (spaced_places before after n (map length xs))) long ∙ ih))
+    let ih = slices-between before after head tail heads tails xs (front ++ piece) back in
+    rw first (ap (λ (fs : List (List ℕ)). x ∷ fs) (ap (λ (ys : List ℕ). map (slice_at ys) (spaced_places before after (length front + before + length x + after) (map length xs))) regrouped ∙ ap (λ (n : ℕ). map (slice_at ((front ++ piece) ++ (rest ++ back))) (spaced_places before after n (map length xs))) long ∙ ih))
+
+pub slices-spaced : (before after : ℕ) (head : List ℕ → List ℕ) (tail : List ℕ) → ((x : List ℕ) → length (head x) ≡ before) → length tail ≡ after → (frames : List (List ℕ)) → map (slice_at (flat_map (λ x. (head x ++ x) ++ tail) frames)) (spaced_places before after 0 (map length frames)) ≡ frames
+slices-spaced before after head tail heads tails frames =
+    let whole = flat_map (λ x. (head x ++ x) ++ tail) frames in
+    ap (λ (ys : List ℕ). map (slice_at ys) (spaced_places before after 0 (map length frames))) (sym (append-nil whole)) ∙ slices-between before after head tail heads tails frames [] []

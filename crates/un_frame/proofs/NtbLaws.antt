@@ -200,7 +200,7 @@ ncm_laws f word most sound = record {
   found = λ p frames. block_slices f (layout_of p) frames sound.writable.four sound.writable.header;
   segment = λ p size some agree low. let head = sound.head in let pair = sound.pair in block_fits_one f p size (omega (arith, head, pair)) some agree low;
   within = λ p size t. frame_within f p size t;
-  together = λ lane p sizes size packed. refl;
+  together = λ lane p sizes size packed alone. refl;
 }
 
 pub ncm16_laws : ClassLaws ncm16

@@ -1,17 +1,18 @@
 -- A class in one place: what its transfers mean, how they are written, and what else depends on a link's class here. A
 -- class of the project is one value of `Rules` below, and one case of `rules_of`; the wire formats themselves have files
 -- of their own (Ecm, Eem, Ntb, NtbForm). What each class is due is the record `ClassLaws` of proofs/ClassLaws.
-use Rattle.std.specs.Prelude.{◌≡◌, ℕ, ◌+◌, ◌*◌, ◌==◌, ◌&&◌, nat_le, Bool, true, false, List, [], ◌∷◌, ◌++◌, length, flat_map, codes, Option}
+use Rattle.std.specs.Prelude.{◌≡◌, ℕ, ◌+◌, ◌*◌, ◌==◌, ◌&&◌, nat_le, max, Bool, true, false, List, [], ◌∷◌, ◌++◌, length, flat_map, codes, Option}
 use Rattle.std.specs.List.{concat}
 use Rattle.un_frame.specs.declared.params.Params.{Params}
 use Rattle.un_frame.specs.declared.params.Class.{Class}
 use Rattle.un_frame.specs.declared.params.Class.TheVariants.{Ecm, Eem, Ncm16, Ncm32}
 use Rattle.un_frame.specs.declared.params.Lane.{Lane}
+use Rattle.un_frame.specs.declared.params.Lane.TheVariants.{Outward, Inward}
 use Rattle.un_frame.specs.declared.fault.Fault.{Fault}
 use Rattle.un_frame.specs.Blocks.{layout_of, BlocksAgree}
 use Rattle.un_frame.specs.Bytes.{Place}
 use Rattle.un_frame.specs.Ecm.{EcmReads, ecm_fault}
-use Rattle.un_frame.specs.Eem.{Data, packet_bytes, EemReads, eem_fault, eem_form}
+use Rattle.un_frame.specs.Eem.{Data, packet_bytes, packets_fit, EemReads, eem_fault, eem_form}
 use Rattle.un_frame.specs.Ntb.{Format, NtbReads, ntb_fault, ntb16, ntb32, MOST_TABLES}
 use Rattle.un_frame.specs.NtbForm.{ntb_form, block_fits, open_block, datagram_places}
 use Rattle.un_frame.specs.Places.{eem_places, ntb_places, spaced_places}
@@ -44,11 +45,7 @@ pub record Rules : Type 1 where
   -- whether frames of these sizes may stand in one transfer together, where a lane packs
   pub fits_together : Params → List ℕ → Bool
 
--- of writers that put one frame into a transfer: it has at most a segment
-abbrev pub fits_alone : Params → List ℕ → ℕ → Bool
-fits_alone p sizes size = (length sizes == 0) && nat_le size p.segment
-
--- ECM: a transfer is a frame
+-- ECM: a transfer is a frame, of at most a segment
 abbrev pub ecm : Rules
 ecm = record {
   word = codes "ecm";
@@ -64,19 +61,28 @@ ecm = record {
   open_form = λ p frames. concat frames;
   open_places = λ p sizes. spaced_places 0 0 0 sizes;
   capacity = λ p. p.segment;
-  fits = fits_alone;
+  fits = λ p sizes size. (length sizes == 0) && nat_le size p.segment;
   fits_together = λ p sizes. false;
 }
 
+-- the gadget sends inward
+abbrev pub is_inward : Lane → Bool
+is_inward Outward = false
+is_inward Inward = true
+
+-- the most bytes of a transfer of EEM: one of a segment is always within them
+abbrev pub eem_capacity : Params → ℕ
+eem_capacity p = max p.block (p.segment + 8)
+
 -- EEM: a transfer is packets, with a header of 2 bytes before a frame and a sentinel of 4 after it; this project's writers
--- put one frame into a transfer, and the empty packet where it is due
+-- put the empty packet where it is due, and the gadget's put several frames into a transfer
 abbrev pub eem : Rules
 eem = record {
   word = codes "eem";
   builds_blocks = false;
   most_block = 262144;
   agree = λ p. Unit {0};
-  packs = λ lane. false;
+  packs = is_inward;
   reads_at = EemReads;
   fault = eem_fault;
   places = λ bytes. eem_places (length bytes) bytes 0;
@@ -84,9 +90,9 @@ eem = record {
   form = λ p serial frames. eem_form p.packet frames;
   open_form = λ p frames. flat_map (λ frame. packet_bytes (Data frame)) frames;
   open_places = λ p sizes. spaced_places 2 4 0 sizes;
-  capacity = λ p. p.segment + 8;
-  fits = fits_alone;
-  fits_together = λ p sizes. false;
+  capacity = eem_capacity;
+  fits = λ p sizes size. nat_le size p.segment && packets_fit (eem_capacity p) p.datagrams (sizes ++ size ∷ []);
+  fits_together = λ p sizes. packets_fit (eem_capacity p) p.datagrams sizes;
 }
 
 -- NCM: a transfer is a block of this format. Many pairs may name the same bytes, but a block has 32 tables at most, each of

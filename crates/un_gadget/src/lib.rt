@@ -15,9 +15,6 @@ ghost use Rattle.un_frame.specs.Params.{Agree, AreInRange};
 ghost use Rattle.un_frame.specs.declared.params.Lane.TheVariants.{Inward, Outward};
 ghost use Rattle.un_receive.specs.Rx.{fresh_rx};
 
-#[cfg(test)]
-mod tests;
-
 use std::alloc::{AllocError, Global};
 use un_frame::Params;
 

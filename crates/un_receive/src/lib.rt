@@ -19,8 +19,6 @@
 
 mod lane;
 mod receiver;
-#[cfg(test)]
-mod tests;
 
 pub use lane::{Inward, OnLane, Outward};
 pub use receiver::LaneRx;

@@ -17,8 +17,6 @@
 //! home; `can_offer`, `can_tick`, `tx_census`, `capacity`, `deferred`, `done` and `home` are for one who looks, and change nothing.
 #![tactic(auto)]
 
-#[cfg(test)]
-mod tests;
 mod transmitter;
 
 pub use transmitter::LaneTx;

@@ -1,3 +1,4 @@
 mod CountLemmas
 pub mod CursorLemmas
 mod WriteLemmas
+pub mod OpenSteps

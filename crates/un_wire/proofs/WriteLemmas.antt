@@ -1,23 +1,24 @@
 -- What the codecs write, by class.
-use Rattle.std.proofs.Common.{◌≡◌, ℕ, ◌+◌, ◌<◌, ◌≤◌, ◌==◌, Bool, true, false, if◌then◌else◌, List, [], ◌∷◌, ◌++◌, length, map, Option, Some, None, option_to_list, unwrap_or, refl, sym, ap, ◌∙◌, IsTrue, subst, arith, append-nil, length-append}
-use Rattle.std.proofs.lemmas.Bool.{false≢true}
+use Rattle.std.proofs.Common.{◌≡◌, ℕ, ◌+◌, ◌<◌, ◌≤◌, ◌==◌, Bool, true, false, nat_le, if◌then◌else◌, List, [], ◌∷◌, ◌++◌, length, map, Option, Some, None, option_to_list, unwrap_or, refl, sym, ap, ◌∙◌, IsTrue, subst, arith, append-nil, length-append}
+use Rattle.std.proofs.lemmas.Bool.{and_parts, false≢true, leb-true}
 use Rattle.std.proofs.lemmas.Bool.Decides.{nat_tests}
 use Rattle.std.proofs.lemmas.List.{length-map}
+use Rattle.std.proofs.lemmas.List.Sums.{sum_by_push}
 use Rattle.std.specs.List.{concat}
-use Rattle.un_frame.proofs.EemLaws.{padded-short}
+use Rattle.un_frame.proofs.EemLaws.{data_size, fit_within, padded-short}
 use Rattle.un_frame.specs.declared.params.Class.{Class}
 use Rattle.un_frame.specs.declared.params.Class.TheVariants.{Ecm, Eem, Ncm16, Ncm32}
 use Rattle.un_frame.specs.declared.params.Lane.{Lane}
 use Rattle.un_frame.specs.declared.params.Params.{Params}
-use Rattle.un_frame.specs.Eem.{Data, Empty, packet_bytes}
+use Rattle.un_frame.specs.Eem.{Empty, packet_bytes, packets_fit, packets_size}
 use Rattle.un_frame.specs.Ntb.{Format, ntb16, ntb32}
 use Rattle.un_frame.specs.NtbForm.{IsOpenBlock, Layout, block_fits, datagrams_end, ntb_form, open_block}
 use Rattle.un_frame.specs.Blocks.{layout_of}
-use Rattle.un_frame.specs.Classes.{fits_alone}
+use Rattle.un_frame.specs.Classes.{ecm, eem_capacity}
 use Rattle.un_frame.specs.Lanes.{packs}
 use Rattle.un_frame.specs.Params.{Agree, AgreeAs, most_block}
 use Rattle.un_frame.specs.Wire.{IsOpen, capacity_as, capacity_of, fits_as, frame_fits, open_as, open_form}
-use Rattle.un_frame.proofs.NtbFormLemmas.{closed_fits_within, length-number_bytes}
+use Rattle.un_frame.proofs.NtbFormLemmas.{closed_fits_within}
 use Rattle.un_frame.proofs.NtbFormReads.{IsWritable, length-block}
 use Rattle.un_eem.specs.Transfer.{data_packets}
 use Rattle.un_ntb.specs.Formats.{class_of, format_of}
@@ -30,7 +31,7 @@ pub open_eem : (p : Params) (sizes bytes : List ℕ) (frames : List (List ℕ)) 
 open_eem p sizes bytes frames is o = o.so_far ∙ ap (λ (class : Class). open_as class p frames) is
 
 -- a frame that fits is the first, of at most a segment, and the transfer has no bytes before it
-fits_first : (p : Params) (held : Option ℕ) (size : ℕ) → IsTrue (fits_alone p (option_to_list held) size) → (held ≡ None) × (size ≤ p.segment)
+fits_first : (p : Params) (held : Option ℕ) (size : ℕ) → IsTrue (ecm.fits p (option_to_list held) size) → (held ≡ None) × (size ≤ p.segment)
 fits_first p None size t = (refl, grind (arith, nat_tests, t))
 fits_first p (Some n) size t = absurd (false≢true t)
 
@@ -55,25 +56,45 @@ module _ (p : Params) (held : Option ℕ) (size : ℕ) (is : p.class ≡ Ecm) (f
       let none = no_frames left.0 (left.1.lengths ∙ ap (λ (o : Option ℕ). option_to_list o) first.0) in
       open_ecm p (option_to_list held) bytes left.0 is left.1 ∙ ap (λ (fs : List (List ℕ)). concat fs) none
 
-module _ (p : Params) (held : Option ℕ) (size : ℕ) (is : p.class ≡ Eem) (fits : IsTrue (frame_fits p (option_to_list held) size)) where
-  eem_first : (held ≡ None) × (size ≤ p.segment)
-  eem_first = fits_first p held size (subst (λ (class : Class). IsTrue (fits_as class p (option_to_list held) size)) is fits)
+-- the bytes of packets are as many as their frames' sizes say
+pub open_size : (p : Params) (sizes bytes : List ℕ) → p.class ≡ Eem → ((frames : List (List ℕ)) × IsOpen p sizes bytes frames) → length bytes ≡ packets_size sizes
+open_size p sizes bytes is left = ap (λ (xs : List ℕ). length xs) (open_eem p sizes bytes left.0 is left.1) ∙ data_size left.0 ∙ ap packets_size left.1.lengths
+
+capacity_eem : (p : Params) → p.class ≡ Eem → capacity_of p ≡ eem_capacity p
+capacity_eem p is = ap (λ (class : Class). capacity_as class p) is
+
+-- a frame that fits has a segment at most, and there is room for its packet
+module _ (p : Params) (sizes : List ℕ) (size : ℕ) (is : p.class ≡ Eem) (fits : IsTrue (frame_fits p sizes size)) where
+  eem_parts : (nat_le size p.segment ≡ true) × (packets_fit (eem_capacity p) p.datagrams (sizes ++ size ∷ []) ≡ true)
+  eem_parts = and_parts (nat_le size p.segment) (packets_fit (eem_capacity p) p.datagrams (sizes ++ size ∷ [])) (subst (λ (class : Class). IsTrue (fits_as class p sizes size)) is fits)
 
   pub eem_frame_most : p.segment ≤ 8192 → size ≤ 16379
   eem_frame_most segment =
-      let first = eem_first in
-      let most = first.1 in
+      let most = leb-true size p.segment eem_parts.0 in
       omega (arith, most, segment)
 
-  pub eem_frame_room : (bytes : List ℕ) (room : ℕ) → ((frames : List (List ℕ)) × IsOpen p (option_to_list held) bytes frames) → capacity_of p ≤ room → length bytes + size + 6 ≤ room
+  pub eem_frame_room : (bytes : List ℕ) (room : ℕ) → ((frames : List (List ℕ)) × IsOpen p sizes bytes frames) → capacity_of p ≤ room → length bytes + size + 6 ≤ room
   eem_frame_room bytes room left within =
-      let first = eem_first in
-      let most = first.1 in
-      let none = no_frames left.0 (left.1.lengths ∙ ap (λ (o : Option ℕ). option_to_list o) first.0) in
-      let empty : bytes ≡ [] = open_eem p (option_to_list held) bytes left.0 is left.1 ∙ ap (λ (fs : List (List ℕ)). data_packets fs) none in
-      let long = ap (λ (xs : List ℕ). length xs) empty in
-      let capacity = ap (λ (class : Class). capacity_as class p) is in
-      omega (arith, most, long, capacity, within)
+      let whole = fit_within (eem_capacity p) p.datagrams (sizes ++ size ∷ []) eem_parts.1 in
+      let more : packets_size (sizes ++ size ∷ []) ≡ packets_size sizes + (size + 6) = sum_by_push (λ n. n + 6) sizes size in
+      let long = open_size p sizes bytes is left in
+      let capacity = capacity_eem p is in
+      omega (arith, whole, more, long, capacity, within)
+
+-- there is room for the empty packet, and what is closed is within the capacity
+pub eem_room : (p : Params) (sizes bytes : List ℕ) → p.class ≡ Eem → packets_size sizes + 2 ≤ eem_capacity p → ((frames : List (List ℕ)) × IsOpen p sizes bytes frames) → length bytes + 2 ≤ capacity_of p
+eem_room p sizes bytes is within left =
+    let long = open_size p sizes bytes is left in
+    let capacity = capacity_eem p is in
+    omega (arith, long, capacity, within)
+
+pub eem_within : (p : Params) (sizes bytes closed : List ℕ) (b : Bool) → p.class ≡ Eem → packets_size sizes + 2 ≤ eem_capacity p → ((frames : List (List ℕ)) × IsOpen p sizes bytes frames)
+    → closed ≡ bytes ++ (if b then packet_bytes Empty else []) → length closed ≤ capacity_of p
+eem_within p sizes bytes closed b is within left same =
+    let room = eem_room p sizes bytes is within left in
+    let long = padded-short bytes b in
+    let whole = ap (λ (xs : List ℕ). length xs) same in
+    omega (arith, room, long, whole)
 
 -- the frames of an open transfer that holds one frame at most
 pub length-concat_held : (held : Option ℕ) (frames : List (List ℕ)) → map length frames ≡ option_to_list held → length (concat frames) ≡ unwrap_or held 0
@@ -83,17 +104,6 @@ length-concat_held (Some n) [] same = absurd (cc)
 length-concat_held (Some n) (x ∷ []) same = let long : length x ≡ n = cc in ap length (append-nil x) ∙ long
 length-concat_held (Some n) (x ∷ y ∷ zs) same = absurd (cc)
 
-pub length-packets_held : (held : Option ℕ) (frames : List (List ℕ)) → map length frames ≡ option_to_list held → length (data_packets frames) ≤ unwrap_or held 0 + 6
-length-packets_held None [] same = omega arith
-length-packets_held None (x ∷ xs) same = absurd (cc)
-length-packets_held (Some n) [] same = absurd (cc)
-length-packets_held (Some n) (x ∷ []) same =
-    let long : length x ≡ n = cc in
-    let packet : length (packet_bytes (Data x)) ≡ length x + 6 = simp (length-append, length-number_bytes) (omega arith) in
-    let whole = ap length (append-nil (packet_bytes (Data x))) in
-    omega (arith, long, packet, whole)
-length-packets_held (Some n) (x ∷ y ∷ zs) same = absurd (cc)
-
 -- a closed block that fits has at most the block's bytes
 pub block_within : (f : Format) (p : Params) (serial : ℕ) (frames : List (List ℕ)) → IsWritable f → block_fits f (layout_of p) p.block p.datagrams (map length frames) ≡ true → length (ntb_form f (layout_of p) serial frames) ≤ p.block
 block_within f p serial frames known fits =
@@ -101,28 +111,13 @@ block_within f p serial frames known fits =
     let t = closed_fits_within f p.alignment p.block p.datagrams (datagrams_end (layout_of p) f.header (map length frames)) (length frames) (rw n at fits) in
     rw (length-block f (layout_of p) serial frames known) t.0
 
--- what a codec of ECM and of EEM closes has at most the capacity
+-- what a codec of ECM closes has at most the capacity
 pub ecm_within : (p : Params) (held : Option ℕ) (bytes : List ℕ) → p.class ≡ Ecm → unwrap_or held 0 ≤ p.segment → ((frames : List (List ℕ)) × IsOpen p (option_to_list held) bytes frames) → length bytes ≤ capacity_of p
 ecm_within p held bytes is fits left =
     let whole = ap (λ (xs : List ℕ). length xs) (open_ecm p (option_to_list held) bytes left.0 is left.1) in
     let long = length-concat_held held left.0 left.1.lengths in
     let capacity = ap (λ (class : Class). capacity_as class p) is in
     omega (arith, whole, long, capacity, fits)
-
-pub eem_room : (p : Params) (held : Option ℕ) (bytes : List ℕ) → p.class ≡ Eem → unwrap_or held 0 ≤ p.segment → ((frames : List (List ℕ)) × IsOpen p (option_to_list held) bytes frames) → length bytes + 2 ≤ capacity_of p
-eem_room p held bytes is fits left =
-    let whole = ap (λ (xs : List ℕ). length xs) (open_eem p (option_to_list held) bytes left.0 is left.1) in
-    let long = length-packets_held held left.0 left.1.lengths in
-    let capacity = ap (λ (class : Class). capacity_as class p) is in
-    omega (arith, whole, long, capacity, fits)
-
-pub eem_within : (p : Params) (held : Option ℕ) (bytes closed : List ℕ) (b : Bool) → p.class ≡ Eem → unwrap_or held 0 ≤ p.segment → ((frames : List (List ℕ)) × IsOpen p (option_to_list held) bytes frames)
-    → closed ≡ bytes ++ (if b then packet_bytes Empty else []) → length closed ≤ capacity_of p
-eem_within p held bytes closed b is fits left same =
-    let room = eem_room p held bytes is fits left in
-    let long = padded-short bytes b in
-    let whole = ap (λ (xs : List ℕ). length xs) same in
-    omega (arith, room, long, whole)
 
 -- and what a codec of NCM closes
 pub block_open : (f : Format) (p : Params) (l : Layout) (sizes bytes : List ℕ) (frames : List (List ℕ)) → open_form p frames ≡ open_block f (layout_of p) frames → l ≡ layout_of p → IsOpen p sizes bytes frames → IsOpenBlock f l sizes bytes frames

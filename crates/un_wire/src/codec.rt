@@ -29,7 +29,11 @@ macro_rules! each {
     };
 }
 
-/// A codec of any class.
+/// A codec of any class: what writes and reads the transfers of a link, made of its parameters.
+///
+/// As a [`Wire`] it writes a transfer in a request by `start`, `append` and `close`, and lends the frames of one by
+/// `read`. For the owner of a transfer's bytes `cursor`, `part_at` and `advance` lend its parts one by one. `packs`
+/// says of a lane whether several frames are packed into one of its transfers.
 #[derive(Drop)]
 pub enum Codec {
     /// ECM: a frame in each transfer.
@@ -46,9 +50,9 @@ impl Codec {
     ghost use Rattle.un_wire.specs.Codings.{coding_of, fresh};
     ghost use Rattle.un_wire.specs.Cursors.{IsAt, part_count, part_index};
 
-    /// A codec of the parameters' class, with no open transfer. It takes the memory for where the frames of a block stand, of as
-    /// many as a block of these parameters can hold (`Writer::most` of un_ntb), and no later call takes any; an error is want of
-    /// memory.
+    /// A codec of the parameters' class, with no open transfer. It takes the memory for where the frames of a block stand, or
+    /// the packets of EEM, of as many as a transfer of these parameters can hold (`Writer::most` of un_ntb), and no later call takes
+    /// any; an error is want of memory.
     pub fn make(alloc: Global, params: &Params) -> Result<Codec, AllocError>
         requires in_range { AreInRange params.now }
         requires agree { Agree params.now }
@@ -56,7 +60,7 @@ impl Codec {
     {
         match params.class {
             Class::Ecm => Ok(Codec::Ecm(EcmWire::make(params))),
-            Class::Eem => Ok(Codec::Eem(EemWire::make(params))),
+            Class::Eem => Ok(Codec::Eem(EemWire::make(alloc, params)?)),
             Class::Ncm16 => Ok(Codec::Ncm16(Ntb16Wire::make(alloc, params)?)),
             Class::Ncm32 => Ok(Codec::Ncm32(Ntb32Wire::make(alloc, params)?)),
         }

@@ -1,7 +1,21 @@
 //! One way to write and to read the transfers of all classes.
 //!
-//! Whoever builds or takes transfers knows them by this crate's clauses alone: what is closed is the written form of its
-//! frames, what is read is what the grammar says, which frames fit, how long a transfer may get and how many frames it has.
+//! ```text
+//! let mut codec = Codec::make(alloc, &params)?;               // of the parameters' class
+//! codec.start(&mut request);                                  // empty, with room for codec.capacity() bytes
+//! codec.append(&mut request, &frame);                         // where codec.fits(length) says so
+//! codec.close(&mut request, serial);                          // the transfer is whole
+//! let mut cursor = codec.cursor(request.bytes())?;            // or the first fault with its place
+//! while let Some(part) = codec.part_at(request.bytes(), &cursor) {
+//!     ..                                                      // a frame, lent where it stands in the request
+//!     codec.advance(request.bytes(), &mut cursor);            // true where none is left
+//! }
+//! ```
+//!
+//! Whoever builds or takes transfers knows them by this crate's clauses alone: what is closed is the written form of
+//! its frames, what is read is what the grammar says, which frames fit, how long a transfer may get and how many frames
+//! it has. A [`Codec`] is a [`Wire`], and lends parts by a cursor; `read` reads by the class alone. `forms_are_read`
+//! and its like do nothing: their contracts are laws that a builder or a receiver may rest on.
 #![tactic(auto)]
 
 mod codec;
@@ -12,8 +26,6 @@ mod laws;
 mod ntb;
 mod parts;
 mod single;
-#[cfg(test)]
-mod tests;
 mod wire;
 
 pub use codec::Codec;

@@ -1,11 +1,11 @@
-//! What the codecs share that write one frame to a transfer.
+//! The open transfer of ECM.
 
 ghost use Rattle.std.specs.Prelude.{◌≡◌, None, Some, false, length, option_to_list, true};
-ghost use Rattle.un_frame.specs.Classes.{fits_alone};
+ghost use Rattle.un_frame.specs.Classes.{ecm};
 
 use un_frame::Params;
 
-/// The open transfer of a codec that writes one frame to each: the length of the frame that is in it, in bytes, and whether one is
+/// The open transfer of a codec that puts one frame into each: the length of the frame that is in it, in bytes, and whether one is
 /// open.
 #[derive(Clone, Copy, Debug)]
 pub(crate) struct Single {
@@ -36,7 +36,7 @@ impl Single {
 
     /// Whether a frame of this length in bytes fits the open transfer: it is the first, and has at most a segment.
     pub(crate) fn fits(&self, params: &Params, length: u32) -> bool
-        ensures { result ≡ fits_alone params.now (option_to_list self.now.held) length }
+        ensures { result ≡ ecm.fits params.now (option_to_list self.now.held) length }
     {
         self.held.is_none() && length <= params.segment
     }

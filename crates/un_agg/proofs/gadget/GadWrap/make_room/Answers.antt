@@ -28,5 +28,5 @@ returns c =
     let k = not_kept (held_in a) c.args.frame.now packed closes in
     let at = next k.some in
     let new = c.begin.ensures ∙ ap (λ (h : Held). record h { from = c.args.number; frames = c.args.frame.now ∷ [] }) copied.rest in
-    rw (← c.self.view_is) (added_after Inward (held_in a) c.begin.new.self (claim_of c.args.request) c.args.frame.now c.args.number c.args.serial c.close-made.result packed k.some k.full at
+    rw (← c.self.view_is) (added_after Inward (held_in a) c.begin.new.self (claim_of c.args.request) c.args.frame.now c.args.number c.args.serial c.close-made.result packed (rw (← c.self.view_is) at c.requires.fits) k.some k.full at
     copied.claimed copied.made new)

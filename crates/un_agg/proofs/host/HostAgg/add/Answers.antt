@@ -22,7 +22,7 @@ returns-then-fits c = λ claim e.
     let u : UnderWay a = under_way a claim was c.self.invariant in
     let fits : frame_fits a.block.params (map length (held_in a).frames) (length c.args.frame.now) ≡ true =
     ap (λ (fs : List (List ℕ)). frame_fits a.block.params (map length fs) (length c.args.frame.now)) u.frames_are ∙ sym c.fits.ensures ∙ c.if-fits.true in
-    rw (← c.self.view_is) (added_settled (held_in a) _ c.close_if_full.new.self claim c.args.frame.now c.args.number c.args.serial u.packed (λ some. fits) next
+    rw (← c.self.view_is) (added_settled (held_in a) _ c.close_if_full.new.self claim c.args.frame.now c.args.number c.args.serial u.packed (rw (← c.self.view_is) at c.requires.fits) (λ some. fits) next
     (appended a c.append.new.self claim c.args.frame.now c.args.number was u c.append.ensures next) c.close_if_full.result c.close_if_full.ensures)
 
 pub refill-requires : goal.refill-requires
@@ -50,5 +50,5 @@ returns c = λ claim e.
     let left = left_over c.self-2.inside.block.claim c.self-2.inside.block.frames c.refill.new.to.items c.args.frame.now (ap (λ (h : Held). h.claim) held) c.refill.ensures.items c.requires.least in
     let new = ap (λ (fs : List (List ℕ)). record (held_in c.self-2.inside) { frames = fs }) left ∙ ap (λ (h : Held). record h { frames = c.args.frame.now ∷ [] }) held
     ∙ ap (λ (n : ℕ). record (held_in a) { from = n; frames = c.args.frame.now ∷ []; claim = None; pending = 0 }) end in
-    rw (← c.self.view_is) (added_after Outward (held_in a) _ claim c.args.frame.now c.args.number c.args.serial c.close-request.result u.packed (omega arith) full at
+    rw (← c.self.view_is) (added_after Outward (held_in a) _ claim c.args.frame.now c.args.number c.args.serial c.close-request.result u.packed (rw (← c.self.view_is) at c.requires.fits) (omega arith) full at
     (same_claim claim (claim_of c.close-request.result) (sym was ∙ closed.claimed)) closed.made new)

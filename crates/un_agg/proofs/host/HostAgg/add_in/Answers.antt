@@ -33,5 +33,5 @@ returns-then-is_empty c =
     let empty : a.remainder.items ≡ [] = nil_from_length a.remainder.items (omega (arith, len, size)) in
     let none : (held_in a).frames ≡ [] = i.frames_are ∙ ap remainder_in empty in
     let count = ap (λ (fs : List (List ℕ)). length fs) none in
-    rw (← c.self.view_is) (added_settled (held_in a) _ c.close_if_full.new.self (claim_of c.args.request) c.args.frame.now c.args.number c.args.serial packed (λ some. absurd (omega (arith, some, count)))
+    rw (← c.self.view_is) (added_settled (held_in a) _ c.close_if_full.new.self (claim_of c.args.request) c.args.frame.now c.args.number c.args.serial packed (rw (← c.self.view_is) at c.requires.fits) (λ some. absurd (omega (arith, some, count)))
     (λ some. absurd (omega (arith, some, count))) (first_of a c.begin.new.self (claim_of c.args.request) c.args.frame.now c.args.number none c.begin.ensures) c.close_if_full.result c.close_if_full.ensures)
