@@ -7,6 +7,7 @@ use Rattle.un_frame.specs.declared.params.Class.{Class}
 use Rattle.un_frame.specs.declared.params.Params.{Params}
 use Rattle.un_frame.specs.declared.kinds.Verdict.{Verdict}
 use Rattle.un_frame.specs.declared.kinds.FaultKind.{FaultKind}
+use Rattle.un_frame.specs.declared.kinds.Planned.{Planned}
 use Rattle.un_frame.specs.declared.kinds.Phase.{Phase}
 use Rattle.un_frame.specs.Bytes.{number_at, number_bytes}
 use Rattle.un_frame.specs.Ntb.{datagrams}
@@ -19,7 +20,7 @@ use Rattle.un_journal.specs.declared.actions.Action.{Action}
 use Rattle.un_journal.specs.declared.actions.Answer.{Answer}
 use Rattle.un_journal.specs.Script.{Script, Feeds, Frame}
 use Rattle.un_journal.specs.History.{History, Entry, past, taken, given}
-use Rattle.un_journal.specs.Lookup.{phase_of}
+use Rattle.un_journal.specs.Lookup.{phase_of, tx_home, rx_home}
 use Rattle.un_journal.specs.LaneSteps.{bare, Outcome, lines_in, answer_in}
 use Rattle.un_journal.specs.Step.{Work, work, outcome, answer_of}
 use Rattle.un_journal.specs.Drain.{drain}
@@ -232,7 +233,7 @@ halted_once = record {
   outward = feeds_with (frame_of 60 ∷ frame_of 60 ∷ []);
   inward = feeds_with [];
   controls = [];
-  faults = record { lane = Outward; serial = 0; kind = FaultKind.Halt } ∷ [];
+  faults = record { lane = Outward; serial = 0; planned = Planned.Halt } ∷ [];
 }
 
 halted_once_drain : drain halted_once []
@@ -243,6 +244,65 @@ halted_once_drain : drain halted_once []
     ∷ (Line.Gave Outward 1, frame_of 60) ∷ bare (Line.Posted Outward) ∷ []
 unfolding datagram_of
 halted_once_drain = refl
+
+-- A FRAME THAT IS TRIED AGAIN
+
+-- one frame, whose first attempts fail on the bus
+abbrev faulty : ℕ → Script
+faulty times = record {
+  params = params_of Class.Ecm 16384 1 1 1 1;
+  outward = feeds_with (frame_of 60 ∷ []);
+  inward = feeds_with [];
+  controls = [];
+  faults = record { lane = Outward; serial = 0; planned = Planned.Proto times } ∷ [];
+}
+
+-- it arrives with the third attempt
+faulty_twice_drain : drain (faulty 2) []
+    ≡ bare (Line.Posted Outward) ∷ bare (Line.Posted Inward) ∷ bare (Line.Took Outward 0) ∷ (Line.Made Outward 0 0 1, frame_of 60)
+    ∷ bare (Line.Flying Outward 0) ∷ bare (Line.Retried Outward 0 1) ∷ bare (Line.Posted Outward)
+    ∷ bare (Line.Flying Outward 0) ∷ bare (Line.Retried Outward 0 2) ∷ bare (Line.Posted Outward)
+    ∷ bare (Line.Flying Outward 0) ∷ bare (Line.Landed Outward 0) ∷ bare (Line.TxHome Outward 0) ∷ bare (Line.Opened Outward 0)
+    ∷ (Line.Gave Outward 0, frame_of 60) ∷ bare (Line.Posted Outward) ∷ []
+unfolding datagram_of
+faulty_twice_drain = refl
+
+-- the fourth attempt is the last
+faulty_always_drain : drain (faulty 4) []
+    ≡ bare (Line.Posted Outward) ∷ bare (Line.Posted Inward) ∷ bare (Line.Took Outward 0) ∷ (Line.Made Outward 0 0 1, frame_of 60)
+    ∷ bare (Line.Flying Outward 0) ∷ bare (Line.Retried Outward 0 1) ∷ bare (Line.Posted Outward)
+    ∷ bare (Line.Flying Outward 0) ∷ bare (Line.Retried Outward 0 2) ∷ bare (Line.Posted Outward)
+    ∷ bare (Line.Flying Outward 0) ∷ bare (Line.Retried Outward 0 3) ∷ bare (Line.Posted Outward)
+    ∷ bare (Line.Flying Outward 0) ∷ bare (Line.Failed Outward 0 FaultKind.Proto) ∷ bare (Line.TxHome Outward 0)
+    ∷ bare (Line.Posted Outward) ∷ []
+faulty_always_drain = refl
+
+-- a transfer that waits to be tried again is cut by an unlink, and its receive request is home already
+abbrev faulty_unlinked : Script
+faulty_unlinked = record {
+  params = params_of Class.Ecm 16384 1 1 1 1;
+  outward = feeds_with (frame_of 60 ∷ []);
+  inward = feeds_with [];
+  controls = record { lane = Outward; want = 1; control = Order.Unlink Outward } ∷ [];
+  faults = record { lane = Outward; serial = 0; planned = Planned.Proto 2 } ∷ [];
+}
+
+abbrev faulty_unlinked_calls : Calls
+faulty_unlinked_calls = calls faulty_unlinked no_calls (
+    inr (Action.Refill Outward) ∷ inr (Action.Offer Outward 0) ∷ inr (Action.Move Outward) ∷ inr (Action.Control false)
+    ∷ inr (Action.Move Outward) ∷ inr (Action.TxDone Outward) ∷ [])
+
+faulty_unlinked_answers : faulty_unlinked_calls.answers ≡ replicate 6 Answer.Did
+faulty_unlinked_answers = refl
+
+faulty_unlinked_lines : lines_of faulty_unlinked_calls.history
+    ≡ Line.Posted Outward ∷ Line.Took Outward 0 ∷ Line.Made Outward 0 0 1 ∷ Line.Flying Outward 0 ∷ Line.Retried Outward 0 1
+    ∷ Line.Control 0 false ∷ Line.Marked Outward 0 0 ∷ Line.Cut Outward 0 0 ∷ Line.TxHome Outward 0 ∷ []
+faulty_unlinked_lines = refl
+
+faulty_unlinked_homes : tx_home faulty_unlinked.params Outward (past Outward faulty_unlinked_calls.history) ∷ rx_home faulty_unlinked.params Outward (past Outward faulty_unlinked_calls.history) ∷ []
+    ≡ 1 ∷ 1 ∷ []
+faulty_unlinked_homes = refl
 
 -- A STOP WITH A FLIGHT OUT
 

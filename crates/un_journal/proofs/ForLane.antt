@@ -1,6 +1,7 @@
 -- What a lane needs of its lines: what the look-ups of a sound lane say of each other, and how they change by a line.
 pub use Rattle.un_journal.proofs.Bytes.TransferBytes.{count_datagrams, take_whole}
 pub use Rattle.un_journal.proofs.Finish.DrainRounds.{lane_still}
+pub use Rattle.un_journal.proofs.Lanes.Attempts.{attempts_most, untried, unmade_untried}
 pub use Rattle.un_journal.proofs.Lanes.CensusCounts.{occurrences_append, occurrences_numbers, occurrences_row}
 pub use Rattle.un_journal.proofs.Lanes.Delivery.{left_here, delivered_more, current_none, current_stays}
 pub use Rattle.un_journal.proofs.Lanes.GivenOrder.{in_turn, top_below, top, landed_below}

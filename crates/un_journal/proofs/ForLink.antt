@@ -5,6 +5,7 @@ pub use Rattle.un_journal.proofs.Bytes.TransferBytes.{count_datagrams}
 pub use Rattle.un_journal.proofs.Finish.Drain.{drain_extends, run_extends, no_longer, step_idle}
 pub use Rattle.un_journal.proofs.Finish.DrainRounds.{lane_still, quiet_parts, drain_after_round, drain_after_control, drain_at_end}
 pub use Rattle.un_journal.proofs.Finish.NothingLost.{take_one}
+pub use Rattle.un_journal.proofs.Lanes.Attempts.{legal_attempts}
 pub use Rattle.un_journal.proofs.Lanes.MayFollow.{fresh}
 pub use Rattle.un_journal.proofs.Lanes.Status.{status_of, is_aloft}
 pub use Rattle.un_journal.proofs.Lists.Counting.{past_short, bytes_append}

@@ -6,7 +6,7 @@ pub use Rattle.un_journal.proofs.Bytes.TransferBytes.{legal_formed}
 pub use Rattle.un_journal.proofs.Finish.DoneIsFinal.{quiet_done, cut_off, given_prefix}
 pub use Rattle.un_journal.proofs.Finish.Drain.{drain_done}
 pub use Rattle.un_journal.proofs.Finish.Finished.{done_finished}
-pub use Rattle.un_journal.proofs.Finish.NothingLost.{nothing_lost, Whole}
+pub use Rattle.un_journal.proofs.Finish.NothingLost.{nothing_lost, plain_line, Whole}
 pub use Rattle.un_journal.proofs.Lanes.CensusCounts.{adds_up, names_place, is_nowhere}
 pub use Rattle.un_journal.proofs.Lanes.GivenOrder.{given_rises, given_taken}
 pub use Rattle.un_journal.proofs.Lanes.Places.{partition}

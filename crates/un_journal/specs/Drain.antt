@@ -22,11 +22,11 @@ round =
     ∷ Action.Deliver Outward ∷ Action.Deliver Inward ∷ Action.Unlink Outward ∷ Action.Unlink Inward
     ∷ Action.ClearHalt Outward ∷ Action.ClearHalt Inward ∷ Action.Settle ∷ []
 
--- The bound on the lines of a history: 13 for each frame; of each receive request one at the start and two for each control, when
+-- The bound on the lines of a history: 22 for each frame; of each receive request one at the start and two for each control, when
 -- it is recalled and posted again; 4 for each control.
 abbrev pub line_bound : Script → ℕ
 line_bound script =
-    13 * frame_count script + (2 * length script.controls + 1) * (script.params.rx_out + script.params.rx_in) + 4 * length script.controls
+    22 * frame_count script + (2 * length script.controls + 1) * (script.params.rx_out + script.params.rx_in) + 4 * length script.controls
 
 -- whether the second history is no longer than the first
 abbrev pub same_length : History → History → Bool

@@ -1,6 +1,6 @@
 -- The table of steps: which lines may be one step after a history. One rule for each row: what it needs, and the lines. Legal
 -- histories are those that these steps leave.
-use Rattle.std.specs.Prelude.{◌≡◌, ◌≢◌, ◌<◌, ℕ, ◌-◌, Bool, true, false, [], ◌∷◌, ◌++◌, reverse, Option, Some, None, slice_get, ◌||◌}
+use Rattle.std.specs.Prelude.{◌≡◌, ◌≢◌, ◌<◌, ℕ, ◌+◌, ◌-◌, Bool, true, false, [], ◌∷◌, ◌++◌, reverse, Option, Some, None, slice_get, ◌||◌}
 use Rattle.un_frame.specs.declared.params.Lane.{Lane}
 use Rattle.un_frame.specs.declared.params.Lane.TheVariants.{Outward, Inward}
 use Rattle.un_frame.specs.declared.kinds.Verdict.{Verdict}
@@ -8,8 +8,9 @@ use Rattle.un_frame.specs.declared.kinds.FaultKind.{FaultKind}
 use Rattle.un_frame.specs.Verdict.{verdict_of}
 use Rattle.un_journal.specs.declared.lines.Line.{Line}
 use Rattle.un_journal.specs.declared.controls.Due.{Due}
+use Rattle.un_frame.specs.Attempts.{ArrivesAfter, RetriesAfter, FailsAfter}
 use Rattle.un_journal.specs.Script.{Script, Frame, planned}
-use Rattle.un_journal.specs.History.{History, past, taken, cover, built, returned, posted, flying, flies, arrived, current, left_of, ended, halted, mark, first}
+use Rattle.un_journal.specs.History.{History, past, taken, cover, built, returned, posted, flying, flies, arrived, current, left_of, ended, halted, mark, attempts, first}
 use Rattle.un_journal.specs.Lookup.{phase_of, works, is_awake, is_asleep, is_stopping, is_leaving, controls_done, feed_head, span_after_took, tx_home, rx_home, offer_needs_home, tick_needs_home, pending, queued, unmarked}
 use Rattle.un_journal.specs.LaneSteps.{bare, datagram_bytes, Outcome}
 use Rattle.un_journal.specs.Step.{Work, Offer, Tick, Take, Land, TxDone, RxDone, Deliver, Refill, Unlink, ClearHalt, Settle, made_if, made_entry, settled_line, all_home, order_lines, hinders, is_due, quiet, work, control}
@@ -66,10 +67,16 @@ pub data Fits (script : Script) (h : History) : Act → History → Type 0 where
       → mark (past lane h) k ≡ Some c
       → Fits script h (Works (Take lane)) (bare (Line.Cut lane k c) ∷ [])
   lands : (lane : Lane) (k : ℕ)
-      → flies (past lane h) k ≡ true → mark (past lane h) k ≡ None → planned script lane k ≡ None
+      → flies (past lane h) k ≡ true → mark (past lane h) k ≡ None
+      → ArrivesAfter (planned script lane k) (attempts (past lane h) k)
       → Fits script h (Works (Land lane)) (bare (Line.Landed lane k) ∷ [])
+  tries_again : (lane : Lane) (k : ℕ)
+      → flies (past lane h) k ≡ true → mark (past lane h) k ≡ None
+      → RetriesAfter (planned script lane k) (attempts (past lane h) k)
+      → Fits script h (Works (Land lane)) (bare (Line.Retried lane k (attempts (past lane h) k + 1)) ∷ [])
   fails : (lane : Lane) (k : ℕ) (kind : FaultKind)
-      → flies (past lane h) k ≡ true → mark (past lane h) k ≡ None → planned script lane k ≡ Some kind
+      → flies (past lane h) k ≡ true → mark (past lane h) k ≡ None
+      → FailsAfter (planned script lane k) (attempts (past lane h) k) kind
       → Fits script h (Works (Land lane)) (bare (Line.Failed lane k kind) ∷ [])
   cuts_flight : (lane : Lane) (k c : ℕ)
       → flies (past lane h) k ≡ true → mark (past lane h) k ≡ Some c

@@ -8,7 +8,7 @@ use Rattle.un_frame.specs.declared.params.Lane.{Lane}
 use Rattle.un_frame.specs.declared.kinds.FaultKind.TheVariants.{Halt}
 use Rattle.un_journal.specs.declared.lines.Line.{Line}
 use Rattle.un_journal.specs.Lines.{begin_with, row}
-use Rattle.un_journal.specs.declared.lines.Line.TheVariants.{Took, Refused, Made, Waited, Posted, Flying, Landed, Failed, Marked, Cut, Dropped, TxHome, Opened, Gave, Recalled, Cleared, Settled}
+use Rattle.un_journal.specs.declared.lines.Line.TheVariants.{Took, Refused, Made, Waited, Posted, Flying, Landed, Failed, Retried, Marked, Cut, Dropped, TxHome, Opened, Gave, Recalled, Cleared, Settled}
 
 -- a line with its bytes
 abbrev pub Entry : Type 0
@@ -114,12 +114,9 @@ flies [] k = false
 flies ((Flying l j, bytes) ∷ g) k = j == k || flies g k
 flies ((Landed l j, bytes) ∷ g) k = not (j == k) && flies g k
 flies ((Failed l j kind, bytes) ∷ g) k = not (j == k) && flies g k
+flies ((Retried l j n, bytes) ∷ g) k = not (j == k) && flies g k
 flies ((Cut l j c, bytes) ∷ g) k = not (j == k) && flies g k
 flies (e ∷ g) k = flies g k
-
--- whether it ever flew
-abbrev pub flown : History → ℕ → Bool
-flown g k = some_line (elim [ Flying l j ↦ j == k | _ ↦ false ]) g
 
 -- whether it landed, failed, was cut, was opened
 abbrev pub landed : History → ℕ → Bool
@@ -191,6 +188,13 @@ recalls g = count_of (elim [ Recalled l ↦ true | _ ↦ false ]) g
 
 abbrev pub flights : History → ℕ
 flights g = count_of (elim [ Flying l k ↦ true | _ ↦ false ]) g
+
+abbrev pub retries : History → ℕ
+retries g = count_of (elim [ Retried l k n ↦ true | _ ↦ false ]) g
+
+-- how many attempts of a transfer failed, after each of which it was tried again
+abbrev pub attempts : History → ℕ → ℕ
+attempts g k = count_of (elim [ Retried l j n ↦ j == k | _ ↦ false ]) g
 
 abbrev pub failures : History → ℕ
 failures g = count_of (elim [ Failed l k kind ↦ true | _ ↦ false ]) g

@@ -1,17 +1,19 @@
 -- A lane's part of the steps: what each writes, or the answer of one that writes nothing, from the lane's lines g, the newest
 -- first. What a lane doesn't know is handed in: whether the link sleeps, the frames that are built, the queued transfers, the
 -- planned fault.
-use Rattle.std.specs.Prelude.{ℕ, ◌-◌, Bool, ◌&&◌, ◌==◌, nat_lt, List, [], ◌∷◌, take, Option, Some, None, if◌then◌else◌}
+use Rattle.std.specs.Prelude.{ℕ, ◌+◌, ◌-◌, Bool, ◌&&◌, ◌==◌, nat_lt, nat_le, List, [], ◌∷◌, take, Option, Some, None, if◌then◌else◌}
 use Rattle.un_frame.specs.declared.params.Lane.{Lane}
 use Rattle.un_frame.specs.declared.params.Params.{Params}
 use Rattle.un_frame.specs.declared.kinds.FaultKind.{FaultKind}
+use Rattle.un_frame.specs.declared.kinds.Planned.{Planned}
+use Rattle.un_frame.specs.declared.kinds.Planned.TheVariants.{Clean, Proto, Halt}
 use Rattle.un_frame.specs.Wire.{form}
 use Rattle.un_frame.specs.Parts.{datagram_of}
 use Rattle.un_frame.specs.Cut.{closed_span}
 use Rattle.un_journal.specs.declared.lines.Line.{Line}
 use Rattle.un_journal.specs.declared.actions.Answer.{Answer}
 use Rattle.un_journal.specs.Script.{Frame}
-use Rattle.un_journal.specs.History.{Entry, History, taken, made, cover, built, returned, posted, flying, arrived, current, left_of, ended, halted, mark, made_bytes, span}
+use Rattle.un_journal.specs.History.{Entry, History, taken, made, cover, built, returned, posted, flying, arrived, current, left_of, ended, halted, mark, made_bytes, span, attempts}
 use Rattle.un_journal.specs.Lookup.{tx_home, rx_home, offer_needs_home, tick_needs_home, pending}
 
 -- what an action does after a history: it writes lines, or it writes none and answers
@@ -81,22 +83,28 @@ take_with asleep lane g queue (k ∷ ks) = Answers (Answer.Flying k)
 abbrev pub take_queued : Bool → Lane → History → List ℕ → Outcome
 take_queued asleep lane g queue = take_with asleep lane g queue (flying g)
 
--- a flight lands, with the fault that is planned for it and its mark
-abbrev pub land_planned : Lane → ℕ → Option FaultKind → Outcome
-land_planned lane k None = Writes (bare (Line.Landed lane k) ∷ [])
-land_planned lane k (Some kind) = Writes (bare (Line.Failed lane k kind) ∷ [])
+-- a flight lands by its plan, after r attempts that failed: a fault on the bus lets it be tried again three times
+abbrev pub land_planned : Lane → ℕ → ℕ → Planned → Outcome
+land_planned lane k r Clean = Writes (bare (Line.Landed lane k) ∷ [])
+land_planned lane k r (Proto times) =
+    if nat_le times r then Writes (bare (Line.Landed lane k) ∷ [])
+    else (if nat_lt r 3 then Writes (bare (Line.Retried lane k (r + 1)) ∷ [])
+    else (if r == 3 then Writes (bare (Line.Failed lane k FaultKind.Proto) ∷ [])
+    else Answers Answer.Nothing))
+land_planned lane k r Halt = Writes (bare (Line.Failed lane k FaultKind.Halt) ∷ [])
 
-abbrev pub land_marked : Lane → Option FaultKind → ℕ → Option ℕ → Outcome
-land_marked lane fault k (Some c) = Writes (bare (Line.Cut lane k c) ∷ [])
-land_marked lane fault k None = land_planned lane k fault
+-- a marked flight is cut, and not tried again
+abbrev pub land_marked : Lane → Planned → ℕ → ℕ → Option ℕ → Outcome
+land_marked lane plan k r (Some c) = Writes (bare (Line.Cut lane k c) ∷ [])
+land_marked lane plan k r None = land_planned lane k r plan
 
-abbrev pub land_with : Lane → Option FaultKind → History → List ℕ → Outcome
-land_with lane fault g [] = Answers Answer.Nothing
-land_with lane fault g (k ∷ ks) = land_marked lane fault k (mark g k)
+abbrev pub land_with : Lane → Planned → History → List ℕ → Outcome
+land_with lane plan g [] = Answers Answer.Nothing
+land_with lane plan g (k ∷ ks) = land_marked lane plan k (attempts g k) (mark g k)
 
--- a landing; the fault is the planned one of the flight
-abbrev pub land_fault : Lane → Option FaultKind → History → Outcome
-land_fault lane fault g = land_with lane fault g (flying g)
+-- a landing, with what is planned for the flight
+abbrev pub land_fault : Lane → Planned → History → Outcome
+land_fault lane plan g = land_with lane plan g (flying g)
 
 -- THE DONE LIST AND THE RECEIVING END
 

@@ -1,6 +1,6 @@
 -- The laws over every history that a link can have. Each is the contract of a public call in src/laws.rt. A moment of a history is
 -- a legal history itself, what an earlier step left, so each law holds at every moment.
-use Rattle.std.specs.Prelude.{◌≡◌, ℕ, ◌+◌, ◌<◌, ◌≤◌, true, false, not, ◌&&◌, List, [], ◌∷◌, ◌++◌, reverse, length}
+use Rattle.std.specs.Prelude.{◌≡◌, ℕ, ◌+◌, ◌<◌, ◌≤◌, true, false, List, [], ◌∷◌, ◌++◌, reverse, length}
 use Rattle.un_frame.specs.Lanes.{tx_size, rx_size}
 use Rattle.un_frame.specs.declared.params.Lane.{Lane}
 use Rattle.un_frame.specs.Params.{AreInRange, Agree}
@@ -10,8 +10,8 @@ use Rattle.un_journal.specs.declared.actions.Action.{Action}
 use Rattle.un_journal.specs.declared.actions.Answer.{Answer}
 use Rattle.un_journal.specs.Log.{HasReason, CarriesItsBytes}
 use Rattle.un_journal.specs.Script.{Script, frames_of}
-use Rattle.un_journal.specs.History.{Entry, History, past, taken, given, made, posts, recalls, flights, flight_cuts, posted, flying, delivered, returned, flies, flown, waits, ended, was_cut, row_from}
-use Rattle.un_journal.specs.Lookup.{datagrams, controls_done, tx_home, rx_home, claim, rx_back, landings, cuts_of}
+use Rattle.un_journal.specs.History.{Entry, History, past, taken, given, made, posts, recalls, flights, posted, flying, delivered, returned, row_from}
+use Rattle.un_journal.specs.Lookup.{datagrams, controls_done, tx_home, rx_home, claim, rx_back, landings}
 use Rattle.un_journal.specs.LaneSteps.{Writes, lines_in}
 use Rattle.un_journal.specs.Step.{all_home, away, quiet, step_of, answer_of}
 use Rattle.un_journal.specs.Fits.{Act, Fits, Legal, IsDone, act_outcome}
@@ -21,7 +21,7 @@ use Rattle.un_journal.specs.Census.{census, total, NamesPlace, nowhere}
 use Rattle.un_journal.specs.Licence.{Licensed, FindsHome}
 use Rattle.un_journal.specs.Bytes.{AreDatagrams, bytes_in, byte_bound}
 use Rattle.un_journal.specs.Done.{IsFinished, NoneFlies}
-use Rattle.un_journal.specs.Loss.{LosesNothing, accepted, good_frames}
+use Rattle.un_journal.specs.Loss.{LosesNothing, loses, accepted, good_frames}
 use Rattle.un_journal.specs.Unplug.{AwaitsUnplug, IsSettledAway, IsPrefix}
 
 -- WHERE A DATAGRAM IS
@@ -46,16 +46,6 @@ abbrev pub CensusIsNowhere : Type 0
 CensusIsNowhere = (script : Script) (h : History) (lane : Lane) (n : ℕ)
     → Legal script h → taken (past lane h) ≤ n → census script h lane n ≡ nowhere
 
--- a transfer flies where it has a flying line and none that ends it
-abbrev pub FliesInPlainWords : Type 0
-FliesInPlainWords = (script : Script) (h : History) (lane : Lane) (k : ℕ)
-    → Legal script h → flies (past lane h) k ≡ (flown (past lane h) k && not (ended (past lane h) k))
-
--- a made transfer waits where it has neither a flying nor a cut line
-abbrev pub WaitsInPlainWords : Type 0
-WaitsInPlainWords = (script : Script) (h : History) (lane : Lane) (k : ℕ)
-    → Legal script h → waits (past lane h) k ≡ (not (flown (past lane h) k) && not (was_cut (past lane h) k))
-
 -- WHAT IS GIVEN AND LOST
 
 -- the given numbers rise strictly
@@ -73,7 +63,7 @@ GivenIsUnchanged = (script : Script) (h : History) (lane : Lane)
     → AreInRange script.params → Agree script.params → Legal script h
     → AreDatagrams (datagrams script lane (past lane h)) (past lane h)
 
--- each failed, cut and dropped line has its cause at its place
+-- each failed, retried, cut and dropped line has its cause at its place
 abbrev pub LossIsLicensed : Type 0
 LossIsLicensed = (script : Script) (before after : History) (e : Entry)
     → Legal script (before ++ e ∷ after) → Licensed script (reverse before) e
@@ -83,7 +73,8 @@ abbrev pub SettledIsHome : Type 0
 SettledIsHome = (script : Script) (before after : History) (t1 r1 t2 r2 : ℕ) (bytes : List ℕ)
     → Legal script (before ++ (Settled t1 r1 t2 r2, bytes) ∷ after) → FindsHome script before t1 r1 t2 r2
 
--- where no fault is planned, each control is a suspend or a resume and the last one no suspend, everything that was accepted is given
+-- where each transfer arrives at last, each control is a suspend or a resume and the last one no suspend, everything that was
+-- accepted is given
 abbrev pub AllIsGiven : Type 0
 AllIsGiven = (script : Script) (h : History) (lane : Lane)
     → AreInRange script.params → LosesNothing script → IsDone script h
@@ -94,6 +85,11 @@ abbrev pub AllIsAccepted : Type 0
 AllIsAccepted = (script : Script) (h : History) (lane : Lane) (sender : ℕ)
     → AreInRange script.params → LosesNothing script → IsDone script h
     → accepted script lane (past lane h) sender ≡ good_frames script.params lane (frames_of script lane sender)
+
+-- a script without faults and controls has no line that loses anything
+abbrev pub PlainScriptsLoseNothing : Type 0
+PlainScriptsLoseNothing = (script : Script) (before after : History) (e : Entry)
+    → script.faults ≡ [] → script.controls ≡ [] → Legal script (before ++ e ∷ after) → loses e.0 ≡ false
 
 -- LINES
 
@@ -137,11 +133,6 @@ abbrev pub ReceiveIsSomewhere : Type 0
 ReceiveIsSomewhere = (script : Script) (h : History) (lane : Lane)
     → Legal script h
     → rx_home script.params lane (past lane h) + posted (past lane h) + length (flying (past lane h)) + length (landings (past lane h)) ≡ rx_size script.params lane + length (delivered (past lane h))
-
--- the cut lines that bring a receive request home are those of the transfers that flew
-abbrev pub FlightCutsFlew : Type 0
-FlightCutsFlew = (script : Script) (h : History) (lane : Lane)
-    → Legal script h → flight_cuts (past lane h) ≡ cuts_of (flown (past lane h)) (past lane h)
 
 -- no pool has more at home than it has
 abbrev pub HomeIsInPool : Type 0

@@ -1,20 +1,20 @@
--- What a line needs of the script and of the lines before it, the newest first: why a transfer failed or was cut, why datagrams were
--- dropped, and that every request is home where a stop settles.
-use Rattle.std.specs.Prelude.{◌≡◌, ◌<◌, ℕ, true, false, ◌||◌, Some, None, slice_get, filter, reverse}
+-- What a line needs of the script and of the lines before it, the newest first: why a transfer failed, was tried again or
+-- was cut, why datagrams were dropped, and that every request is home where a stop settles.
+use Rattle.std.specs.Prelude.{◌≡◌, ◌<◌, ℕ, ◌+◌, true, false, ◌||◌, Some, None, slice_get, filter, reverse}
 use Rattle.un_frame.specs.Lanes.{tx_size, rx_size}
 use Rattle.un_frame.specs.declared.params.Lane.{Lane}
 use Rattle.un_frame.specs.declared.params.Lane.TheVariants.{Outward, Inward}
-use Rattle.un_frame.specs.declared.kinds.FaultKind.{FaultKind}
+use Rattle.un_frame.specs.declared.kinds.Planned.{Planned}
 use Rattle.un_journal.specs.declared.lines.Line.{Line}
-use Rattle.un_journal.specs.declared.lines.Line.TheVariants.{Failed, Marked, Cut, Dropped, Settled}
+use Rattle.un_journal.specs.declared.lines.Line.TheVariants.{Failed, Retried, Marked, Cut, Dropped, Settled}
 use Rattle.un_journal.specs.declared.controls.Control.{Control as Order}
 use Rattle.un_journal.specs.declared.controls.Due.{Due}
+use Rattle.un_frame.specs.Attempts.{RetriesAfter, FailsAfter}
 use Rattle.un_journal.specs.Script.{Script, planned}
-use Rattle.un_journal.specs.History.{Entry, History, concerns, mark}
+use Rattle.un_journal.specs.History.{Entry, History, concerns, mark, attempts}
 use Rattle.un_journal.specs.Lookup.{controls_done, phase_after, is_stopping, is_leaving}
 use Rattle.un_journal.specs.Step.{all_home}
-use Rattle.std.specs.Prelude.{◌≡◌, ℕ, ◌<◌, true, false, ◌||◌, [], ◌∷◌, Some, None, slice_get, filter, reverse}
-use Rattle.un_frame.specs.declared.kinds.Phase.TheVariants.{Down}
+use Rattle.std.specs.Prelude.{[], ◌∷◌}
 
 -- whether an order gives up transfers of the lane, whether it stops the link
 abbrev pub Cuts : Order → Lane → Type 0
@@ -35,9 +35,9 @@ pub record IsCause (script : Script) (older : History) (c : ℕ) (kind : Order �
   pub is_done : c < controls_done older
   pub is_kind : kind due.control
 
--- the plan has this fault for the transfer, and no control marked it
-pub record IsFault (script : Script) (older : History) (lane : Lane) (k : ℕ) (kind : FaultKind) : Type 0 where
-  pub is_planned : planned script lane k ≡ Some kind
+-- the plan lets the transfer do this after the attempts that failed, and no control marked it
+pub record IsPlanned (script : Script) (older : History) (lane : Lane) (k : ℕ) (does : Planned → ℕ → Type 0) : Type 0 where
+  pub by_plan : does (planned script lane k) (attempts (filter (concerns lane) older) k)
   pub is_unmarked : mark (filter (concerns lane) older) k ≡ None
 
 -- a control line is of the next control of the script, and no stop is being settled
@@ -59,10 +59,12 @@ pub record FindsHome (script : Script) (before : History) (t1 r1 t2 r2 : ℕ) : 
   pub is_home : all_home script before ≡ true
   pub sizes : AreSizes script t1 r1 t2 r2
 
--- What licenses a line at its place. A failed, cut or dropped line has its cause; a marked line names a control that cuts its lane;
--- control and settled lines stand where they may.
+-- What licenses a line at its place. A failed, retried, cut or dropped line has its cause; a marked line names a control that
+-- cuts its lane; control and settled lines stand where they may.
 abbrev pub Licensed : Script → History → Entry → Type 0
-Licensed script older (Failed l k kind, bytes) = IsFault script older l k kind
+Licensed script older (Failed l k kind, bytes) = IsPlanned script older l k (λ plan r. FailsAfter plan r kind)
+Licensed script older (Retried l k n, bytes) =
+    IsPlanned script older l k (λ plan r. RetriesAfter plan r × (n ≡ r + 1))
 Licensed script older (Marked l k c, bytes) = IsCause script older c (λ o. Cuts o l)
 Licensed script older (Cut l k c, bytes) = IsCause script older c (λ o. Cuts o l)
 Licensed script older (Dropped l a b c, bytes) = IsCause script older c Stops

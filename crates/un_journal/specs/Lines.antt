@@ -8,7 +8,7 @@ use Rattle.un_frame.specs.declared.kinds.Verdict.{Verdict}
 use Rattle.un_frame.specs.declared.params.Lane.{Lane}
 use Rattle.un_text.specs.Words.{verdict_word, kind_word, flag_word}
 use Rattle.un_journal.specs.declared.lines.Line.{Line}
-use Rattle.un_journal.specs.declared.lines.Line.TheVariants.{Took, Refused, Made, Waited, Posted, Flying, Landed, Failed, Marked, Cut, Dropped, TxHome, Opened, Gave, Recalled, Cleared, Control, Settled}
+use Rattle.un_journal.specs.declared.lines.Line.TheVariants.{Took, Refused, Made, Waited, Posted, Flying, Landed, Failed, Retried, Marked, Cut, Dropped, TxHome, Opened, Gave, Recalled, Cleared, Control, Settled}
 
 -- a field by its type: numbers have 32 or 64 bits
 pub data Field : Type 0 where
@@ -53,6 +53,7 @@ row (Posted l) = record { name = codes "posted"; fields = lane l ∷ [] }
 row (Flying l k) = record { name = codes "flying"; fields = lane l ∷ long k ∷ [] }
 row (Landed l k) = record { name = codes "landed"; fields = lane l ∷ long k ∷ [] }
 row (Failed l k kind) = record { name = codes "failed"; fields = lane l ∷ long k ∷ fault kind ∷ [] }
+row (Retried l k n) = record { name = codes "retried"; fields = lane l ∷ long k ∷ short n ∷ [] }
 row (Marked l k c) = record { name = codes "marked"; fields = lane l ∷ long k ∷ short c ∷ [] }
 row (Cut l k c) = record { name = codes "cut"; fields = lane l ∷ long k ∷ short c ∷ [] }
 row (Dropped l a b c) = record { name = codes "dropped"; fields = lane l ∷ long a ∷ long b ∷ short c ∷ [] }

@@ -10,11 +10,11 @@ use Rattle.un_frame.specs.declared.params.Params.{Params}
 use Rattle.un_frame.specs.Lanes.{packs, tx_size, rx_size}
 use Rattle.un_frame.specs.Cut.{closed_span}
 use Rattle.un_journal.specs.declared.lines.Line.{Line}
-use Rattle.un_journal.specs.declared.lines.Line.TheVariants.{Took, Cut, Settled}
+use Rattle.un_journal.specs.declared.lines.Line.TheVariants.{Took, Settled}
 use Rattle.un_journal.specs.declared.controls.Control.{Control as Order}
 use Rattle.un_journal.specs.declared.controls.Due.{Due}
 use Rattle.un_journal.specs.Script.{Script, Frame, frames_of}
-use Rattle.un_journal.specs.History.{History, taken, consumed, made, cover, built, took_last, waited_after, returned, posts, recalls, failures, flight_cuts, delivered, landed, waiting, those, flies, waits, mark, count_of}
+use Rattle.un_journal.specs.History.{History, taken, consumed, made, cover, built, took_last, waited_after, returned, posts, recalls, failures, retries, flight_cuts, delivered, landed, waiting, those, flies, waits, mark, count_of}
 
 -- PHASE
 
@@ -124,9 +124,10 @@ claim params lane g = if block_claims params lane g then 1 else 0
 abbrev pub tx_home : Params → Lane → History → ℕ
 tx_home params lane g = tx_size params lane + returned g - (made g + claim params lane g)
 
--- the receive requests that were at home at first or came back: recalled, with a failed or cut flight, or with the last datagram given
+-- the receive requests that were at home at first or came back: recalled, with a flight that failed, for good or to be tried again, or was
+-- cut, or with the last datagram given
 abbrev pub rx_back : Params → Lane → History → ℕ
-rx_back params lane g = rx_size params lane + recalls g + failures g + flight_cuts g + length (delivered g)
+rx_back params lane g = rx_size params lane + recalls g + failures g + retries g + flight_cuts g + length (delivered g)
 
 -- the receive requests at home: those less the posted ones
 abbrev pub rx_home : Params → Lane → History → ℕ
@@ -135,10 +136,6 @@ rx_home params lane g = rx_back params lane g - posts g
 -- the transfers that landed, by serial
 abbrev pub landings : History → List ℕ
 landings g = those (landed g) (made g)
-
--- how many cut lines are of a transfer that passes
-abbrev pub cuts_of : (ℕ → Bool) → History → ℕ
-cuts_of test g = count_of (elim [ Cut lane k cause ↦ test k | _ ↦ false ]) g
 
 -- whether an offer whose lines these are needs a home request, g being the lines before it
 abbrev pub offer_needs_home : Params → Lane → History → Option (ℕ × ℕ) → Bool

@@ -1,6 +1,6 @@
 -- What a line needs of the script, of the phase and of its lane's lines before it, the newest first. Each line of a legal history
 -- keeps its rule.
-use Rattle.std.specs.Prelude.{◌≡◌, ◌≢◌, ℕ, ◌-◌, ◌<◌, Bool, true, false, ◌||◌, List, [], ◌∷◌, Some, None, ◌⊎◌, filter, take}
+use Rattle.std.specs.Prelude.{◌≡◌, ◌≢◌, ℕ, ◌+◌, ◌-◌, ◌<◌, Bool, true, false, ◌||◌, List, [], ◌∷◌, Some, None, ◌⊎◌, filter, take}
 use Rattle.un_facts.specs.Lists.{is_empty}
 use Rattle.un_frame.specs.declared.params.Lane.{Lane}
 use Rattle.un_frame.specs.declared.kinds.Phase.{Phase}
@@ -9,9 +9,10 @@ use Rattle.un_frame.specs.Lanes.{tx_size, rx_size}
 use Rattle.un_frame.specs.Verdict.{verdict_of}
 use Rattle.un_frame.specs.Wire.{form}
 use Rattle.un_journal.specs.declared.lines.Line.{Line}
-use Rattle.un_journal.specs.declared.lines.Line.TheVariants.{Took, Refused, Made, Waited, Posted, Flying, Landed, Failed, Marked, Dropped, Gave, Recalled, Cleared, Settled}
+use Rattle.un_journal.specs.declared.lines.Line.TheVariants.{Took, Refused, Made, Waited, Posted, Flying, Landed, Failed, Retried, Marked, Dropped, Gave, Recalled, Cleared, Settled}
+use Rattle.un_frame.specs.Attempts.{ArrivesAfter, RetriesAfter, FailsAfter}
 use Rattle.un_journal.specs.Script.{Script, Frame, planned}
-use Rattle.un_journal.specs.History.{Entry, History, concerns, first, taken, made, cover, posted, mark, halted, current, left_of}
+use Rattle.un_journal.specs.History.{Entry, History, concerns, first, taken, made, cover, posted, mark, attempts, halted, current, left_of}
 use Rattle.un_journal.specs.Lookup.{phase_after, works, is_awake, is_asleep, is_stopping, is_leaving, feed_head, built_frames, block_claims, span_after_took, tx_home, rx_home, pending}
 use Rattle.un_journal.specs.Licence.{IsOrder}
 use Rattle.un_journal.specs.LaneSteps.{datagram_bytes}
@@ -62,8 +63,9 @@ LaneRule script phase l (Made l' k a b, bytes) g = MadeRule script l a b bytes g
 LaneRule script phase l (Waited l', bytes) g = 0 < pending script.params l g
 LaneRule script phase l (Posted l', bytes) g = (is_awake phase ≡ true) × (0 < rx_home script.params l g)
 LaneRule script phase l (Flying l' k, bytes) g = FlyingRule phase k g
-LaneRule script phase l (Landed l' k, bytes) g = (mark g k ≡ None) × (planned script l k ≡ None)
-LaneRule script phase l (Failed l' k kind, bytes) g = (mark g k ≡ None) × (planned script l k ≡ Some kind)
+LaneRule script phase l (Landed l' k, bytes) g = (mark g k ≡ None) × ArrivesAfter (planned script l k) (attempts g k)
+LaneRule script phase l (Failed l' k kind, bytes) g = (mark g k ≡ None) × FailsAfter (planned script l k) (attempts g k) kind
+LaneRule script phase l (Retried l' k n, bytes) g = (mark g k ≡ None) × RetriesAfter (planned script l k) (attempts g k) × (n ≡ attempts g k + 1)
 LaneRule script phase l (Marked l' k c, bytes) g = (mark g k ≡ None) × (k < made g)
 LaneRule script phase l (Dropped l' a b c, bytes) g = (works phase ≡ false) × (b ≡ taken g)
 LaneRule script phase l (Gave l' n, bytes) g = GaveRule script n bytes g

@@ -1,12 +1,13 @@
 -- A script as plain data: the parameters of a link, what its senders offer, and what is done to it.
-use Rattle.std.specs.Prelude.{ℕ, ◌+◌, length, ◌&&◌, ◌==◌, List, [], ◌∷◌, Option, Some, None, unwrap_or, slice_get, if◌then◌else◌}
+use Rattle.std.specs.Prelude.{ℕ, ◌+◌, length, ◌&&◌, ◌==◌, List, [], ◌∷◌, unwrap_or, slice_get, if◌then◌else◌}
 use Rattle.un_frame.specs.declared.params.Lane.{Lane}
 use Rattle.un_frame.specs.declared.params.Lane.TheVariants.{Outward, Inward}
-use Rattle.un_frame.specs.declared.kinds.FaultKind.{FaultKind}
+use Rattle.un_frame.specs.declared.kinds.Planned.{Planned}
+use Rattle.un_frame.specs.declared.kinds.Planned.TheVariants.{Clean}
 use Rattle.un_frame.specs.declared.params.Params.{Params}
 use Rattle.un_frame.specs.Lanes.{same_lane}
 use Rattle.un_journal.specs.declared.controls.Due.{Due}
-use Rattle.un_journal.specs.declared.controls.Planned.{Planned}
+use Rattle.un_journal.specs.declared.controls.PlannedFault.{PlannedFault}
 
 abbrev pub Frame : Type 0
 Frame = List ℕ
@@ -24,7 +25,7 @@ pub record Script : Type 0 where
   pub outward : Feeds
   pub inward : Feeds
   pub controls : List Due
-  pub faults : List Planned
+  pub faults : List PlannedFault
 
 -- the feeds of a lane, by sender from 0 on
 abbrev pub feed_list : Feeds → List (List Frame)
@@ -45,11 +46,11 @@ frames_in_all feeds = length feeds.first + length feeds.second + length feeds.th
 abbrev pub frame_count : Script → ℕ
 frame_count script = frames_in_all script.outward + frames_in_all script.inward
 
-abbrev pub planned_in : List Planned → Lane → ℕ → Option FaultKind
-planned_in [] lane serial = None
+abbrev pub planned_in : List PlannedFault → Lane → ℕ → Planned
+planned_in [] lane serial = Clean
 planned_in (p ∷ ps) lane serial =
-    if same_lane p.lane lane && p.serial == serial then Some p.kind else planned_in ps lane serial
+    if same_lane p.lane lane && p.serial == serial then p.planned else planned_in ps lane serial
 
--- what the plan has for a transfer: the first fault that names its lane and serial
-abbrev pub planned : Script → Lane → ℕ → Option FaultKind
+-- what the plan has for a transfer: the first that names its lane and serial
+abbrev pub planned : Script → Lane → ℕ → Planned
 planned script lane serial = planned_in script.faults lane serial

@@ -1,7 +1,7 @@
 -- The lines of one lane in an order that a lane can write: what each line needs of the lane's lines before it, the newest first.
 -- No script and no phase is in it. Both lanes of every legal history are sound.
 use Rattle.std.specs.Prelude.{◌≡◌, ℕ, ◌<◌, ◌≤◌, true, false, [], ◌∷◌, Some, ◌⊎◌}
-use Rattle.un_journal.specs.declared.lines.Line.TheVariants.{Made, Flying, Landed, Failed, Cut, Dropped, TxHome, Opened, Gave}
+use Rattle.un_journal.specs.declared.lines.Line.TheVariants.{Made, Flying, Landed, Failed, Retried, Cut, Dropped, TxHome, Opened, Gave}
 use Rattle.un_journal.specs.History.{Entry, History, taken, made, cover, flies, waits, ended, landed, opened, gave, serial_of, returned}
 
 -- k is the first transfer that waits, and none flies
@@ -41,6 +41,7 @@ Follows (Dropped l a b c, bytes) g = IsNextSpan g a b
 Follows (Flying l k, bytes) g = IsNext g k
 Follows (Landed l k, bytes) g = flies g k ≡ true
 Follows (Failed l k kind, bytes) g = flies g k ≡ true
+Follows (Retried l k n, bytes) g = flies g k ≡ true
 Follows (Cut l k c, bytes) g = (flies g k ≡ true) ⊎ IsNext g k
 Follows (TxHome l k, bytes) g = (k ≡ returned g) × (ended g k ≡ true)
 Follows (Opened l k, bytes) g = IsFirstArrived g k

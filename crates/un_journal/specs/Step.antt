@@ -16,7 +16,7 @@ use Rattle.un_journal.specs.declared.controls.Control.{Control as Order}
 use Rattle.un_journal.specs.declared.controls.Due.{Due}
 use Rattle.un_journal.specs.Script.{Script, Frame, planned}
 use Rattle.un_journal.specs.LaneSteps.{Outcome, Writes, Answers, lines_in, answer_in, bare, made_line, made_lines, accept, tick_built, take_queued, land_marked, tx_done, rx_done, deliver_next, post, unlink_first, clear_set}
-use Rattle.un_journal.specs.History.{Entry, History, past, taken, cover, built, posted, flying, mark}
+use Rattle.un_journal.specs.History.{Entry, History, past, taken, cover, built, posted, flying, mark, attempts}
 use Rattle.un_journal.specs.Lookup.{phase_of, works, is_asleep, is_stopping, is_leaving, controls_done, feed_head, feeds_empty, built_frames, tx_home, rx_home, deferred, queued, unmarked}
 
 -- OFFER AND TICK
@@ -52,7 +52,7 @@ take_flight phase lane g = take_queued (is_asleep phase) lane g (queued phase la
 
 abbrev pub land_from : Script → Lane → History → List ℕ → Outcome
 land_from script lane g [] = Answers Answer.Nothing
-land_from script lane g (k ∷ ks) = land_marked lane (planned script lane k) k (mark g k)
+land_from script lane g (k ∷ ks) = land_marked lane (planned script lane k) k (attempts g k) (mark g k)
 
 abbrev pub land_flight : Script → Lane → History → Outcome
 land_flight script lane g = land_from script lane g (flying g)

@@ -6,7 +6,7 @@ use Rattle.std.specs.Fmt.{digits}
 use Rattle.un_frame.specs.declared.params.Lane.TheVariants.{Outward, Inward}
 use Rattle.un_frame.specs.declared.kinds.FaultKind.TheVariants.{Proto, Halt}
 use Rattle.un_frame.specs.declared.kinds.Verdict.TheVariants.{Short, Long, Filtered}
-use Rattle.un_journal.specs.declared.lines.Line.TheVariants.{Took, Refused, Made, Waited, Posted, Flying, Landed, Failed, Marked, Cut, Dropped, TxHome, Opened, Gave, Recalled, Cleared, Control, Settled}
+use Rattle.un_journal.specs.declared.lines.Line.TheVariants.{Took, Refused, Made, Waited, Posted, Flying, Landed, Failed, Retried, Marked, Cut, Dropped, TxHome, Opened, Gave, Recalled, Cleared, Control, Settled}
 use Rattle.un_journal.specs.Text.{trace, entry_text}
 
 pub empty_trace : trace [] ≡ codes "trace\nend\n"
@@ -18,7 +18,7 @@ pub first_lines : trace ((Posted Outward, []) ∷ (Took Outward 0, []) ∷ (Refu
 unfolding trace entry_text encode_with digits
 first_lines = refl
 
-pub other_lines : trace ((Failed Inward 2 Proto, []) ∷ (Failed Inward 3 Halt, []) ∷ (Marked Outward 4 0, []) ∷ (Cut Outward 4 0, []) ∷ (Dropped Inward 5 7 1, []) ∷ (Recalled Inward, []) ∷ (Cleared Inward, []) ∷ (Control 0 true, []) ∷ (Control 12 false, []) ∷ (Settled 1 2 3 64, []) ∷ [])
-    ≡ codes "trace\nfailed in 2 proto\nfailed in 3 halt\nmarked out 4 0\ncut out 4 0\ndropped in 5 7 1\nrecalled in\ncleared in\ndid 0 1\ndid 12 0\nsettled 1 2 3 64\nend\n"
+pub other_lines : trace ((Failed Inward 2 Proto, []) ∷ (Failed Inward 3 Halt, []) ∷ (Retried Outward 4 1, []) ∷ (Marked Outward 4 0, []) ∷ (Cut Outward 4 0, []) ∷ (Dropped Inward 5 7 1, []) ∷ (Recalled Inward, []) ∷ (Cleared Inward, []) ∷ (Control 0 true, []) ∷ (Control 12 false, []) ∷ (Settled 1 2 3 64, []) ∷ [])
+    ≡ codes "trace\nfailed in 2 proto\nfailed in 3 halt\nretried out 4 1\nmarked out 4 0\ncut out 4 0\ndropped in 5 7 1\nrecalled in\ncleared in\ndid 0 1\ndid 12 0\nsettled 1 2 3 64\nend\n"
 unfolding trace entry_text encode_with digits
 other_lines = refl

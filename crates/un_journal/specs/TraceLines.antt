@@ -4,7 +4,7 @@ use Rattle.std.specs.Prelude.{◌≡◌, ℕ, ◌==◌, List, [], ◌∷◌, ◌
 use Rattle.std.specs.Str.{bytes_eq}
 use Rattle.un_frame.specs.Spelling.{lane_named}
 use Rattle.un_journal.specs.declared.lines.Line.{Line}
-use Rattle.un_journal.specs.declared.lines.Line.TheVariants.{Took, Refused, Made, Waited, Posted, Flying, Landed, Failed, Marked, Cut, Dropped, TxHome, Opened, Gave, Recalled, Cleared, Control, Settled}
+use Rattle.un_journal.specs.declared.lines.Line.TheVariants.{Took, Refused, Made, Waited, Posted, Flying, Landed, Failed, Retried, Marked, Cut, Dropped, TxHome, Opened, Gave, Recalled, Cleared, Control, Settled}
 use Rattle.un_journal.specs.declared.trace_reader.Unread.{Unread}
 use Rattle.un_journal.specs.declared.trace_reader.Unread.TheVariants.{Outside, NoMemory}
 use Rattle.un_journal.specs.History.{Entry, History}
@@ -75,9 +75,10 @@ abbrev pub three_named : List ℕ → List (List ℕ) → Option Parsed
 three_named name words =
     if bytes_eq name (codes "refused") then three lane_named short_in why_in Refused words
     else (if bytes_eq name (codes "failed") then three lane_named long_in kind_named Failed words
+    else (if bytes_eq name (codes "retried") then three lane_named long_in short_in Retried words
     else (if bytes_eq name (codes "marked") then three lane_named long_in short_in Marked words
     else (if bytes_eq name (codes "cut") then three lane_named long_in short_in Cut words
-    else None)))
+    else None))))
 
 abbrev pub four_named : List ℕ → List (List ℕ) → Option Parsed
 four_named name words =

@@ -1,6 +1,6 @@
 //! The controls and the planned faults of a script.
 
-use un_frame::{FaultKind, Lane};
+use un_frame::{Lane, Planned};
 
 /// A control of a script.
 #[derive(Clone, Copy, Debug, PartialEq, Eq)]
@@ -28,10 +28,10 @@ pub struct Due {
     pub control: Control,
 }
 
-/// A fault that is planned for the transfer `serial` (0 to 65,535) of a lane.
+/// What is planned for the transfer `serial` (0 to 65,535) of a lane.
 #[derive(Clone, Copy, Debug, PartialEq, Eq)]
-pub struct Planned {
+pub struct PlannedFault {
     pub lane: Lane,
     pub serial: u64,
-    pub kind: FaultKind,
+    pub planned: Planned,
 }

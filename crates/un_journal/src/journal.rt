@@ -21,6 +21,9 @@ pub struct Stored {
 /// The lines of a history with their bytes, and room for more of both. Contracts see it as the history, the number of lines that
 /// have room yet, and the number of bytes that have. Every line carries bytes as its kind says: `Made` and `Gave` at least one,
 /// the others none.
+///
+/// It grows by `push` alone, at its end. `len`, `line`, `bytes` and `entry` read it, `spare_lines` and `spare_bytes`
+/// tell the room that is left, and `prove_entries` does nothing but state what each entry is.
 #[derive(Drop)]
 pub struct Journal {
     lines: Vec<Stored>,
@@ -195,6 +198,11 @@ fn numbers_fit(line: Line)
         | Line::TxHome { serial: _a, .. }
         | Line::Opened { serial: _a, .. } => {}
         Line::Gave { number: _a, .. } => {}
+        Line::Retried {
+            serial: _a,
+            attempt: _b,
+            ..
+        } => {}
         Line::Marked {
             serial: _a,
             cause: _b,

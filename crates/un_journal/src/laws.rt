@@ -19,8 +19,6 @@ ghost use Rattle.un_journal.specs.Laws.{
   DrainIsDone,
   DrainIsLegal,
   FittingIsWritten,
-  FliesInPlainWords,
-  FlightCutsFlew,
   GivenIsAccepted,
   GivenIsKept,
   GivenIsUnchanged,
@@ -32,6 +30,7 @@ ghost use Rattle.un_journal.specs.Laws.{
   LinesAreSpelled,
   LossIsLicensed,
   NoneIsAway,
+  PlainScriptsLoseNothing,
   PostedAddsUp,
   QuietIsDone,
   ReceiveAddsUp,
@@ -42,7 +41,6 @@ ghost use Rattle.un_journal.specs.Laws.{
   SomeAreAway,
   StepIsOne,
   TransmitAddsUp,
-  WaitsInPlainWords,
   WrittenFits,
 };
 
@@ -58,12 +56,6 @@ pub fn census_names_the_place()
     ensures nowhere { CensusIsNowhere }
 {}
 
-/// What flies and what waits, in the plainest words: a flying line and no line that ends the flight; neither a flying nor a cut line.
-pub fn plain_words()
-    ensures flies { FliesInPlainWords }
-    ensures waits { WaitsInPlainWords }
-{}
-
 /// What is given are accepted datagrams, once each, unchanged and in the order in which they were accepted. The bytes are
 /// unchanged where the parameters are in range and agree.
 pub fn given_is_accepted()
@@ -72,7 +64,8 @@ pub fn given_is_accepted()
     ensures unchanged { GivenIsUnchanged }
 {}
 
-/// A transfer fails only where the plan has this fault for it and no control marked it. It is cut only by a `down`, an `unplug` or an
+/// A transfer fails, or is tried again after a failed attempt, only where the plan has this fault for it and no control marked it: it
+/// is tried again after at most three attempts. It is cut only by a `down`, an `unplug` or an
 /// `unlink` of its lane, and what is built is dropped only by a `down` or an `unplug`; that control was done before.
 pub fn losses_are_licensed()
     ensures { LossIsLicensed }
@@ -84,11 +77,16 @@ pub fn settled_is_home()
     ensures { SettledIsHome }
 {}
 
-/// Where no fault is planned, each control is a suspend or a resume and the last one isn't a suspend, a link that is done gave
-/// everything that it accepted, and accepted every frame that is to be taken.
+/// Where no halt and no fourth fault of a transfer is planned, each control is a suspend or a resume and the last one isn't a
+/// suspend, a link that is done gave everything that it accepted, and accepted every frame that is to be taken.
 pub fn nothing_is_lost()
     ensures given { AllIsGiven }
     ensures accepted { AllIsAccepted }
+{}
+
+/// A link whose script has no fault and no control loses nothing: none of its lines is a failed, a cut or a dropped one.
+pub fn plain_scripts_lose_nothing()
+    ensures { PlainScriptsLoseNothing }
 {}
 
 /// Lines carry bytes as their kind says, and a refused line has a verdict that refuses.
@@ -96,7 +94,7 @@ pub fn lines_are_spelled()
     ensures { LinesAreSpelled }
 {}
 
-/// A history has at most `13 F + (2 C + 1) Q + 4 C` lines, with F frames, C controls and Q receive requests of both lanes.
+/// A history has at most `22 F + (2 C + 1) Q + 4 C` lines, with F frames, C controls and Q receive requests of both lanes.
 pub fn lines_are_bounded()
     ensures { LinesAreBounded }
 {}
@@ -109,13 +107,12 @@ pub fn bytes_are_bounded()
 /// The counts of each pool add up, and no pool has more at home than it has. Transmit requests are at home, claimed by an open block,
 /// or with a made transfer that isn't home again. Receive requests are at home, posted, in a flight, or in a landed transfer of which
 /// a datagram isn't given; one that was posted was recalled, left with a flight, or is posted. Requests are away exactly where not all
-/// are at home. A `cut` line brings a receive request home exactly where its transfer has a `flying` line.
+/// are at home.
 pub fn pools_add_up()
     ensures transmit { TransmitAddsUp }
     ensures receive { ReceiveAddsUp }
     ensures posted { PostedAddsUp }
     ensures somewhere { ReceiveIsSomewhere }
-    ensures flight_cuts { FlightCutsFlew }
     ensures in_pool { HomeIsInPool }
     ensures some_away { SomeAreAway }
     ensures none_away { NoneIsAway }

@@ -7,7 +7,7 @@ use crate::rows::concerns;
 use un_frame::{FaultKind, Lane, Verdict};
 
 /// One line of a history: a step of the link that changed it, or a part of one. `Made` and `Gave` carry at least one byte, the
-/// other 16 kinds none.
+/// other 17 kinds none.
 #[derive(Clone, Copy, Debug, PartialEq, Eq)]
 pub enum Line {
     /// The head of the sender's feed was accepted, as the lane's next datagram.
@@ -51,6 +51,13 @@ pub enum Line {
         lane: Lane,
         serial: u64,
         kind: FaultKind,
+    },
+    /// Attempt `attempt` (1 to 3) of transfer `serial` failed by the fault plan, and the transfer is queued again, before all
+    /// others. Its receive request is home.
+    Retried {
+        lane: Lane,
+        serial: u64,
+        attempt: u32,
     },
     /// Control `cause` marked transfer `serial`, which will be cut.
     Marked {

@@ -26,6 +26,7 @@ macro_rules! rows {
             b"flying" => Flying { lane, serial },
             b"landed" => Landed { lane, serial },
             b"failed" => Failed { lane, serial, kind },
+            b"retried" => Retried { lane, serial, attempt },
             b"marked" => Marked { lane, serial, cause },
             b"cut" => Cut { lane, serial, cause },
             b"dropped" => Dropped { lane, from, to, cause },

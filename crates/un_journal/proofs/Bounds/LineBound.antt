@@ -15,9 +15,9 @@ use Rattle.un_frame.specs.declared.kinds.FaultKind.TheVariants.{Proto, Halt}
 use Rattle.un_frame.specs.declared.params.Params.{Params}
 use Rattle.un_frame.specs.Lanes.{packs, same_lane, rx_size}
 use Rattle.un_journal.specs.declared.lines.Line.{Line}
-use Rattle.un_journal.specs.declared.lines.Line.TheVariants.{Took, Refused, Made, Waited, Posted, Flying, Landed, Failed, Marked, Cut, Dropped, TxHome, Opened, Gave, Recalled, Cleared, Settled}
+use Rattle.un_journal.specs.declared.lines.Line.TheVariants.{Took, Refused, Made, Waited, Posted, Flying, Landed, Failed, Retried, Marked, Cut, Dropped, TxHome, Opened, Gave, Recalled, Cleared, Settled}
 use Rattle.un_journal.specs.Script.{Script, Frame, feeds_of, frames_of}
-use Rattle.un_journal.specs.History.{Entry, History, past, concerns, those, taken, consumed, made, cover, built, took_last, waited_after, posts, recalls, flights, failures, flight_cuts, posted, flies, halted, mark, told_if, returned, more_if, delivered, ends, count_of}
+use Rattle.un_journal.specs.History.{Entry, History, past, concerns, those, taken, consumed, made, cover, built, took_last, waited_after, posts, recalls, flights, failures, retries, flight_cuts, posted, flies, halted, mark, told_if, returned, more_if, delivered, ends, count_of}
 use Rattle.un_journal.specs.Lookup.{phase_of, phase_after, after_control, after_settled, works, is_awake, is_stopping, is_leaving, controls_done, feed_head, block_open, pending, rx_home}
 use Rattle.un_journal.specs.Sound.{IsSound}
 use Rattle.un_journal.specs.Drain.{line_bound}
@@ -28,6 +28,7 @@ use Rattle.un_journal.proofs.Steps.StaySound.{legal_good}
 use Rattle.un_journal.proofs.Lists.Passing.{those_count, those_empty, those_most}
 use Rattle.un_journal.specs.Rules.{LaneRule, AllRuled, AllLane}
 use Rattle.un_journal.proofs.Steps.LineRules.{legal_ruled}
+use Rattle.un_journal.proofs.Lanes.Attempts.{retries_made}
 use Rattle.un_journal.proofs.Lanes.PoolSums.{lane_ruled, landed_lines, flight_sum, ends_made, returned_ends, HomeSums, home_sums, delivered_landed}
 use Rattle.un_journal.proofs.Finish.Finished.{controls_within}
 use Rattle.std.proofs.Math.Nat.{mul-le-mul_right}
@@ -66,7 +67,7 @@ settled_lines g = count_of (elim [ Settled t1 r1 t2 r2 ↦ true | _ ↦ false ])
 
 abbrev kinds : History → ℕ
 kinds g =
-    taken g + refused_lines g + made g + waited_lines g + posts g + flights g + ends g + marked_lines g + dropped_lines g + returned g + opened_lines g + gave_lines g + recalls g + cleared_lines g + settled_lines g + controls_done g
+    taken g + refused_lines g + made g + waited_lines g + posts g + flights g + ends g + marked_lines g + dropped_lines g + returned g + opened_lines g + gave_lines g + recalls g + cleared_lines g + settled_lines g + controls_done g + retries g
 
 every_kind : (g : History) → length g ≡ kinds g
 every_kind [] = refl
@@ -78,6 +79,7 @@ every_kind ((Posted l, bytes) ∷ g) = let e : length g ≡ kinds g = every_kind
 every_kind ((Flying l k, bytes) ∷ g) = let e : length g ≡ kinds g = every_kind g in omega arith
 every_kind ((Landed l k, bytes) ∷ g) = let e : length g ≡ kinds g = every_kind g in omega arith
 every_kind ((Failed l k kind, bytes) ∷ g) = let e : length g ≡ kinds g = every_kind g in omega arith
+every_kind ((Retried l k n, bytes) ∷ g) = let e : length g ≡ kinds g = every_kind g in omega arith
 every_kind ((Marked l k c, bytes) ∷ g) = let e : length g ≡ kinds g = every_kind g in omega arith
 every_kind ((Cut l k c, bytes) ∷ g) = let e : length g ≡ kinds g = every_kind g in omega arith
 every_kind ((Dropped l a b c, bytes) ∷ g) = let e : length g ≡ kinds g = every_kind g in omega arith
@@ -107,9 +109,9 @@ flight_cuts_cut [] = omega arith
 flight_cuts_cut ((Cut l k c, bytes) ∷ g) = more_most (flies g k) (flight_cuts g) (cut_lines g) (flight_cuts_cut g)
 flight_cuts_cut (e ∷ g) = flight_cuts_cut g
 
-flights_made : (g : History) → IsSound g → flights g ≤ made g
+flights_made : (g : History) → IsSound g → flights g ≤ made g + retries g
 flights_made g sound =
-    let a : flights g ≡ landed_lines g + failures g + flight_cuts g + one_if (is_up g) = flight_sum g sound in
+    let a : flights g ≡ landed_lines g + failures g + retries g + flight_cuts g + one_if (is_up g) = flight_sum g sound in
     let b : ends g ≡ landed_lines g + failures g + cut_lines g = ends_split g in
     let c : flight_cuts g ≤ cut_lines g = flight_cuts_cut g in
     let d : ends g + one_if (is_up g) ≤ made g = ends_made g sound in omega arith
@@ -297,13 +299,14 @@ posted_most params l g sound s =
     let a : rx_home params l g + posted g + one_if (is_up g) + landed_lines g ≡ rx_size params l + length (delivered g) = s.receive_all in
     let d : length (delivered g) ≤ landed_lines g = delivered_landed g sound in omega arith
 
-pub lane_bound : (script : Script) (l : Lane) (g : History) → IsSound g → AllLane script l g → controls_done g ≡ 0 → length g ≤ 13 * sum_by length (feeds_of script l) + 2 * recalls g + rx_size script.params l + dropped_lines g + settled_lines g
+pub lane_bound : (script : Script) (l : Lane) (g : History) → IsSound g → AllLane script l g → controls_done g ≡ 0 → length g ≤ 22 * sum_by length (feeds_of script l) + 2 * recalls g + rx_size script.params l + dropped_lines g + settled_lines g
 lane_bound script l g sound all nc =
     let k : length g ≡ kinds g = every_kind g in
     let a : made g ≤ cover g = made_cover g sound in
     let b : cover g ≤ taken g = cover_below g sound in
     let w : waited_lines g ≤ 3 * taken g = waits_most script l g all in
-    let f : flights g ≤ made g = flights_made g sound in
+    let f : flights g ≤ made g + retries g = flights_made g sound in
+    let re : retries g ≤ 3 * made g = retries_made script l g sound all in
     let en : ends g + one_if (is_up g) ≤ made g = ends_made g sound in
     let m : marked_lines g ≤ made g = marked_made script l g all in
     let r : returned g ≤ ends g = returned_ends g sound in
@@ -340,6 +343,7 @@ both_lanes ((Posted l, bytes) ∷ older) = one_lane l (Posted l, bytes) older (b
 both_lanes ((Flying l k, bytes) ∷ older) = one_lane l (Flying l k, bytes) older (both_lanes older)
 both_lanes ((Landed l k, bytes) ∷ older) = one_lane l (Landed l k, bytes) older (both_lanes older)
 both_lanes ((Failed l k kind, bytes) ∷ older) = one_lane l (Failed l k kind, bytes) older (both_lanes older)
+both_lanes ((Retried l k n, bytes) ∷ older) = one_lane l (Retried l k n, bytes) older (both_lanes older)
 both_lanes ((Marked l k c, bytes) ∷ older) = one_lane l (Marked l k c, bytes) older (both_lanes older)
 both_lanes ((Cut l k c, bytes) ∷ older) = one_lane l (Cut l k c, bytes) older (both_lanes older)
 both_lanes ((Dropped l a b c, bytes) ∷ older) = one_lane l (Dropped l a b c, bytes) older (both_lanes older)
@@ -489,9 +493,9 @@ pub legal_bound : (script : Script) (h : History) → Legal script h → length 
 legal_bound script h legal =
     let ruled = legal_ruled script h legal in
     let good = legal_good script h legal in
-    let o : length (past Outward h) ≤ 13 * sum_by length (feeds_of script Outward) + 2 * recalls (past Outward h) + script.params.rx_out + dropped_lines (past Outward h) + settled_lines (past Outward h) =
+    let o : length (past Outward h) ≤ 22 * sum_by length (feeds_of script Outward) + 2 * recalls (past Outward h) + script.params.rx_out + dropped_lines (past Outward h) + settled_lines (past Outward h) =
     lane_bound script Outward (past Outward h) (good.sound Outward) (lane_ruled script (reverse h) ruled Outward) (no_controls Outward (reverse h)) in
-    let i : length (past Inward h) ≤ 13 * sum_by length (feeds_of script Inward) + 2 * recalls (past Inward h) + script.params.rx_in + dropped_lines (past Inward h) + settled_lines (past Inward h) =
+    let i : length (past Inward h) ≤ 22 * sum_by length (feeds_of script Inward) + 2 * recalls (past Inward h) + script.params.rx_in + dropped_lines (past Inward h) + settled_lines (past Inward h) =
     lane_bound script Inward (past Inward h) (good.sound Inward) (lane_ruled script (reverse h) ruled Inward) (no_controls Inward (reverse h)) in
     let po = paid script Outward (reverse h) ruled (good.sound Outward) in
     let pi = paid script Inward (reverse h) ruled (good.sound Inward) in

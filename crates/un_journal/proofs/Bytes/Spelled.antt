@@ -1,5 +1,5 @@
 -- Every line of a legal history carries bytes as its kind says, and is licensed at its place.
-use Rattle.std.proofs.Common.{◌≡◌, ℕ, ◌+◌, ◌-◌, ◌<◌, ◌≤◌, Bool, true, false, List, [], ◌∷◌, ◌++◌, length, sym, subst, arith, if◌then◌else◌, filter, reverse, take, drop, slice_get, Some, zero, suc}
+use Rattle.std.proofs.Common.{◌≡◌, ℕ, ◌-◌, ◌<◌, ◌≤◌, Bool, true, false, List, [], ◌∷◌, ◌++◌, length, sym, subst, arith, if◌then◌else◌, filter, reverse, take, drop, slice_get, Some, zero, suc}
 use Rattle.std.proofs.lemmas.Bool.{false≢true}
 use Rattle.std.proofs.lemmas.List.{length-drop, length-take-le, reverse-reverse}
 use Rattle.std.specs.List.{AllByRecursion}

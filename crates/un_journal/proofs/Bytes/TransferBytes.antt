@@ -27,7 +27,7 @@ use Rattle.un_journal.specs.LaneSteps.{bare, datagram_bytes, span_start}
 use Rattle.un_journal.specs.Step.{made_if, order_lines, cut_each, marked_each, recalled_each, dropped_built, made_entry, settled_line}
 use Rattle.un_journal.specs.Bytes.{AreDatagrams}
 use Rattle.un_journal.proofs.Bytes.Transfers.{FramesFit, AreFrames, WireHolds, fit_more, part_is}
-use Rattle.un_journal.specs.Fits.{Act, Fits, takes, refuses, waits_once, closes, begins_flight, cuts_queued, lands, fails, cuts_flight, comes_home, opens, gives, posts_one, marks, recalls_one, clears, settles, orders, orders_forced, Legal, begins, goes_on, after_took}
+use Rattle.un_journal.specs.Fits.{Act, Fits, takes, refuses, waits_once, closes, begins_flight, cuts_queued, lands, tries_again, fails, cuts_flight, comes_home, opens, gives, posts_one, marks, recalls_one, clears, settles, orders, orders_forced, Legal, begins, goes_on, after_took}
 use Rattle.un_journal.proofs.Lists.Passing.{row_first}
 use Rattle.un_journal.proofs.Lanes.GivenOrder.{cover_below}
 use Rattle.un_journal.proofs.Steps.StaySound.{Good, legal_good}
@@ -142,7 +142,7 @@ module _ (params : Params) (ds : List Frame) (x : Frame) (a n : ℕ) (len : n �
   all_empty e = rw (drop_whole a ds (e ∙ len)) alone
 
   all_fit : (lane : Lane) → packs params.class lane ≡ true → frames_fit params (drop a (ds ++ x ∷ [])) ≡ true → FramesFit params (drop a ds ++ x ∷ [])
-  all_fit lane b w = fit_more params lane (drop a ds) x b before (subst (λ i. frames_fit params i ≡ true) split w)
+  all_fit lane b w = fit_more params lane (drop a ds) x b alone before (subst (λ i. frames_fit params i ≡ true) split w)
 
   fit_either : (lane : Lane) → packs params.class lane ≡ true → (v w : Bool) → nat_lt a n ≡ v → frames_fit params (drop a (ds ++ x ∷ [])) ≡ w → (v && not w) ≡ false → FramesFit params (drop a ds ++ x ∷ [])
   fit_either lane b true true v w e = all_fit lane b w
@@ -443,6 +443,7 @@ step_formed script h lines act wire good w (closes lane b p n) l =
 step_formed script h lines act wire good w (begins_flight lane k a none e m ha p) l = one_formed script lane l _ h refl (λ i. refl) (w l)
 step_formed script h lines act wire good w (cuts_queued lane k c none e m) l = one_formed script lane l _ h refl (λ i. refl) (w l)
 step_formed script h lines act wire good w (lands lane k f m p) l = one_formed script lane l _ h refl (λ i. refl) (w l)
+step_formed script h lines act wire good w (tries_again lane k f m p) l = one_formed script lane l _ h refl (λ i. refl) (w l)
 step_formed script h lines act wire good w (fails lane k kind f m p) l = one_formed script lane l _ h refl (λ i. refl) (w l)
 step_formed script h lines act wire good w (cuts_flight lane k c f m) l = one_formed script lane l _ h refl (λ i. refl) (w l)
 step_formed script h lines act wire good w (comes_home lane e) l = one_formed script lane l _ h refl (λ i. refl) (w l)

@@ -35,10 +35,10 @@ pub lengths_append : (xs ys : List Frame) → map length (xs ++ ys) ≡ map leng
 lengths_append [] ys = refl
 lengths_append (x ∷ xs) ys = ap (λ i. length x ∷ i) (lengths_append xs ys)
 
--- where a lane packs, one frame more that fits together with the others fits behind them
-pub fit_more : (params : Params) (lane : Lane) (frames : List Frame) (x : Frame) → packs params.class lane ≡ true → FramesFit params frames → frames_fit params (frames ++ x ∷ []) ≡ true → FramesFit params (frames ++ x ∷ [])
-fit_more params lane frames x b f e =
-    let together : sizes_fit_as params.class params (map length frames ++ length x ∷ []) ≡ fits_as params.class params (map length frames) (length x) = (laws_of params.class).together lane params (map length frames) (length x) b in
+-- where a lane packs, one frame more that fits by itself, and together with the others, fits behind them
+pub fit_more : (params : Params) (lane : Lane) (frames : List Frame) (x : Frame) → packs params.class lane ≡ true → FramesFit params (x ∷ []) → FramesFit params frames → frames_fit params (frames ++ x ∷ []) ≡ true → FramesFit params (frames ++ x ∷ [])
+fit_more params lane frames x b alone f e =
+    let together : sizes_fit_as params.class params (map length frames ++ length x ∷ []) ≡ fits_as params.class params (map length frames) (length x) = (laws_of params.class).together lane params (map length frames) (length x) b alone.0 in
     subst (FitInTurn params.class params []) (sym (lengths_append frames (x ∷ [])))
     (fit_last params.class params [] (map length frames) (length x) f
     (sym together ∙ subst (λ i. sizes_fit_as params.class params i ≡ true) (lengths_append frames (x ∷ [])) e))

@@ -1,7 +1,7 @@
 -- What a stop leaves: nothing built while the link doesn't work; while it leaves, every transfer that isn't over is marked and nothing
 -- is posted; where it is down or away, every transmit request came home.
 use Rattle.std.proofs.Common.{◌≡◌, ℕ, zero, suc, ◌+◌, ◌-◌, ◌<◌, ◌≤◌, Bool, true, false, not, ◌&&◌, ◌||◌, ◌==◌, List, [], ◌∷◌, ◌++◌, Option, Some, inl, inr, refl, sym, ap, ◌∙◌, subst, arith, if◌then◌else◌, filter, reverse, slice_get, is_some}
-use Rattle.std.proofs.lemmas.Bool.{false≢true, eqb-true, or_cases, or_left, or_right}
+use Rattle.std.proofs.lemmas.Bool.{false≢true, eqb-true, or_cases, or_left}
 use Rattle.un_frame.specs.Lanes.{tx_size}
 use Rattle.un_facts.specs.Numbers.{one_if}
 use Rattle.un_frame.specs.declared.params.Lane.{Lane}
@@ -19,7 +19,7 @@ use Rattle.un_journal.specs.LaneSteps.{bare}
 use Rattle.un_journal.specs.Step.{cut_each, marked_each, recalled_each, dropped_built, order_lines, settled_line}
 use Rattle.un_journal.specs.Sound.{IsSound}
 use Rattle.un_journal.specs.Done.{is_gone}
-use Rattle.un_journal.specs.Fits.{Act, Fits, takes, refuses, waits_once, closes, begins_flight, cuts_queued, lands, fails, cuts_flight, comes_home, opens, gives, posts_one, marks, recalls_one, clears, settles, orders, orders_forced, Legal, begins, goes_on, after_took}
+use Rattle.un_journal.specs.Fits.{Act, Fits, takes, refuses, waits_once, closes, begins_flight, cuts_queued, lands, tries_again, fails, cuts_flight, comes_home, opens, gives, posts_one, marks, recalls_one, clears, settles, orders, orders_forced, Legal, begins, goes_on, after_took}
 use Rattle.un_journal.proofs.Lanes.MayFollow.{AllSound}
 use Rattle.un_journal.proofs.Steps.StaySound.{legal_good}
 use Rattle.un_journal.proofs.Lists.NewestFirst.{onto, onto_append, reverse_onto, filter_onto, sound_under}
@@ -388,6 +388,7 @@ step_calm script h lines act legal all sound w (closes lane b p n) = still_calm 
 step_calm script h lines act legal all sound w (begins_flight lane k a none e m ha p) = still_calm script h _ (refl, tt) all sound w
 step_calm script h lines act legal all sound w (cuts_queued lane k c none e m) = still_calm script h _ (refl, tt) all sound w
 step_calm script h lines act legal all sound w (lands lane k f m p) = still_calm script h _ (refl, tt) all sound w
+step_calm script h lines act legal all sound w (tries_again lane k f m p) = still_calm script h _ (refl, tt) all sound w
 step_calm script h lines act legal all sound w (fails lane k kind f m p) = still_calm script h _ (refl, tt) all sound w
 step_calm script h lines act legal all sound w (cuts_flight lane k c f m) = still_calm script h _ (refl, tt) all sound w
 step_calm script h lines act legal all sound w (comes_home lane e) = still_calm script h _ (refl, tt) all sound w

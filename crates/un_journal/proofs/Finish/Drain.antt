@@ -9,16 +9,17 @@ use Rattle.un_frame.proofs.LaneLemmas.{same_lane-refl}
 use Rattle.un_frame.specs.declared.params.Lane.{Lane}
 use Rattle.un_frame.specs.declared.params.Lane.TheVariants.{Outward, Inward}
 use Rattle.un_frame.specs.Lanes.{same_lane}
-use Rattle.un_journal.specs.declared.lines.Line.TheVariants.{Flying, Landed, Failed, Cut}
+use Rattle.un_journal.specs.declared.lines.Line.TheVariants.{Flying, Landed, Failed, Retried, Cut}
 use Rattle.un_journal.specs.declared.actions.Action.{Action}
 use Rattle.un_journal.specs.Script.{Script, feeds_of, planned}
-use Rattle.un_journal.specs.History.{Entry, History, past, concerns, made, flies, flying, mark}
+use Rattle.un_journal.specs.History.{Entry, History, past, concerns, made, flies, flying, mark, attempts}
 use Rattle.un_journal.specs.Lookup.{phase_of, controls_done}
 use Rattle.un_journal.specs.LaneSteps.{Outcome, Writes, Answers, lines_in, bare, land_marked}
 use Rattle.un_journal.specs.Step.{Work, work, move_after, step_of, land_from, land_flight, made_if}
 use Rattle.un_journal.specs.Drain.{run, round, drain_in, drain, same_length, line_bound}
 use Rattle.un_journal.specs.Done.{NoneFlies}
-use Rattle.un_journal.specs.Fits.{Act, Works, Controls, Fits, takes, refuses, waits_once, closes, begins_flight, cuts_queued, lands, fails, cuts_flight, comes_home, opens, gives, posts_one, marks, recalls_one, clears, settles, orders, orders_forced, Legal, IsDone, act_outcome, after_took}
+use Rattle.un_journal.proofs.Lanes.Attempts.{legal_attempts}
+use Rattle.un_journal.specs.Fits.{Act, Works, Controls, Fits, takes, refuses, waits_once, closes, begins_flight, cuts_queued, lands, tries_again, fails, cuts_flight, comes_home, opens, gives, posts_one, marks, recalls_one, clears, settles, orders, orders_forced, Legal, IsDone, act_outcome, after_took}
 use Rattle.un_journal.proofs.Steps.StaySound.{legal_good, ArePlain, is_plain, order_plain, own_past}
 use Rattle.un_journal.proofs.Steps.OneStep.{fits_outcome}
 use Rattle.un_journal.proofs.Steps.OutcomesFit.{outcome_fits}
@@ -155,6 +156,7 @@ fits_some script h lines act (closes lane b p n) q = cc
 fits_some script h lines act (begins_flight lane k a none e m ha p) q = cc
 fits_some script h lines act (cuts_queued lane k c none e m) q = cc
 fits_some script h lines act (lands lane k f m p) q = cc
+fits_some script h lines act (tries_again lane k f m p) q = cc
 fits_some script h lines act (fails lane k kind f m p) q = cc
 fits_some script h lines act (cuts_flight lane k c f m) q = cc
 fits_some script h lines act (comes_home lane e) q = cc
@@ -182,6 +184,7 @@ line_grounded : (e : Entry) (g : History) (k : ℕ) → is_no_flight e ≡ true 
 line_grounded (Flying l j, bytes) g k n w = absurd (false≢true n)
 line_grounded (Landed l j, bytes) g k n w = and_right (not (j == k)) (flies g k) w
 line_grounded (Failed l j kind, bytes) g k n w = and_right (not (j == k)) (flies g k) w
+line_grounded (Retried l j m, bytes) g k n w = and_right (not (j == k)) (flies g k) w
 line_grounded (Cut l j c, bytes) g k n w = and_right (not (j == k)) (flies g k) w
 line_grounded (e, bytes) g k n w = w
 
@@ -221,6 +224,7 @@ act_grounded script h lines act t (closes lane b p n) = (refl, tt)
 act_grounded script h lines act t (begins_flight lane k a none e m ha p) = absurd (false≢true (sym t))
 act_grounded script h lines act t (cuts_queued lane k c none e m) = (refl, tt)
 act_grounded script h lines act t (lands lane k f m p) = (refl, tt)
+act_grounded script h lines act t (tries_again lane k f m p) = (refl, tt)
 act_grounded script h lines act t (fails lane k kind f m p) = (refl, tt)
 act_grounded script h lines act t (cuts_flight lane k c f m) = (refl, tt)
 act_grounded script h lines act t (comes_home lane e) = (refl, tt)
@@ -243,7 +247,7 @@ act_grounds script h act t w = outcome_grounded script h act (act_outcome script
 
 pub data TakeCase (script : Script) (h : History) (l : Lane) (xs : History) : Type 0 where
   cut_one : (k c : ℕ) → xs ≡ bare (Cut l k c) ∷ [] → TakeCase script h l xs
-  flew_one : (k : ℕ) → k < made (past l h) → xs ≡ bare (Flying l k) ∷ [] → TakeCase script h l xs
+  flew_one : (k : ℕ) → k < made (past l h) → attempts (past l h) k ≤ 3 → xs ≡ bare (Flying l k) ∷ [] → TakeCase script h l xs
 
 abbrev taker : Act → Option Lane
 taker (Works (Work.Take l)) = Some l
@@ -252,13 +256,14 @@ taker act = None
 take_case : (script : Script) (h lines : History) (act : Act) (l : Lane) → Legal script h → taker act ≡ Some l → Fits script h act lines → TakeCase script h l lines
 take_case script h lines act l legal t (begins_flight lane k a none e m ha p) =
     subst (λ i. TakeCase script h i (bare (Flying lane k) ∷ [])) (same_Some lane l t)
-    (flew_one k (next_from (past lane h) k ((legal_good script h legal).sound lane) none (queued_waiting (phase_of script h) lane (past lane h) k e)).is_made refl)
+    (flew_one k (next_from (past lane h) k ((legal_good script h legal).sound lane) none (queued_waiting (phase_of script h) lane (past lane h) k e)).is_made (legal_attempts script h legal lane k) refl)
 take_case script h lines act l legal t (cuts_queued lane k c none e m) = subst (λ i. TakeCase script h i (bare (Cut lane k c) ∷ [])) (same_Some lane l t) (cut_one k c refl)
 take_case script h lines act l legal t (takes lane sender frame w e v home) = absurd (none-some l t)
 take_case script h lines act l legal t (refuses lane sender frame why w e v n) = absurd (none-some l t)
 take_case script h lines act l legal t (waits_once lane p) = absurd (none-some l t)
 take_case script h lines act l legal t (closes lane b p n) = absurd (none-some l t)
 take_case script h lines act l legal t (lands lane k f m p) = absurd (none-some l t)
+take_case script h lines act l legal t (tries_again lane k f m p) = absurd (none-some l t)
 take_case script h lines act l legal t (fails lane k kind f m p) = absurd (none-some l t)
 take_case script h lines act l legal t (cuts_flight lane k c f m) = absurd (none-some l t)
 take_case script h lines act l legal t (comes_home lane e) = absurd (none-some l t)
@@ -272,14 +277,14 @@ take_case script h lines act l legal t (settles s e) = absurd (none-some l t)
 take_case script h lines act l legal t (orders force due e p d z) = absurd (none-some l t)
 take_case script h lines act l legal t (orders_forced due e p d q z) = absurd (none-some l t)
 
-land_from_list : (script : Script) (l : Lane) (g : History) (k : ℕ) (xs ks : List ℕ) → xs ≡ k ∷ ks → land_from script l g xs ≡ land_marked l (planned script l k) k (mark g k)
+land_from_list : (script : Script) (l : Lane) (g : History) (k : ℕ) (xs ks : List ℕ) → xs ≡ k ∷ ks → land_from script l g xs ≡ land_marked l (planned script l k) k (attempts g k) (mark g k)
 land_from_list script l g k xs ks e = rw e refl
 
 -- the line of a landing right after the flight
-landing_line : (script : Script) (h : History) (l : Lane) (k : ℕ) → k < made (past l h) → NoneFlies h → LandLine l k (work script (h ++ bare (Flying l k) ∷ []) (Work.Land l))
-landing_line script h l k low w =
+landing_line : (script : Script) (h : History) (l : Lane) (k : ℕ) → k < made (past l h) → attempts (past l h) k ≤ 3 → NoneFlies h → LandLine l k (work script (h ++ bare (Flying l k) ∷ []) (Work.Land l))
+landing_line script h l k low most w =
     subst (LandLine l k) (sym (ap (λ g. land_flight script l g) (own_past h (bare (Flying l k)) l (same_lane-refl l)) ∙ land_from_list script l (bare (Flying l k) ∷ past l h) k (flying (bare (Flying l k) ∷ past l h)) c.rest c.is))
-    (land_line script l k (mark (bare (Flying l k) ∷ past l h) k))
+    (land_line script l k (attempts (bare (Flying l k) ∷ past l h) k) (mark (bare (Flying l k) ∷ past l h) k) most)
   where
     test : ℕ → Bool
     test j = k == j || flies (past l h) j
@@ -306,9 +311,9 @@ move_from script h l xs w (cut_one k c e) =
 
     idle : lines_in (work script (h ++ bare (Cut l k c) ∷ []) (Work.Land l)) ≡ []
     idle = ap (λ ks. lines_in (land_from script l (past l (h ++ bare (Cut l k c) ∷ [])) ks)) (those_empty (flies (past l (h ++ bare (Cut l k c) ∷ []))) (made (past l (h ++ bare (Cut l k c) ∷ []))) (λ j i. grounds l j))
-move_from script h l xs w (flew_one k low e) =
+move_from script h l xs w (flew_one k low most e) =
     subst (λ ys. NoneFlies (h ++ (ys ++ lines_in (work script (h ++ ys) (Work.Land l))))) (sym e)
-    (let r = landing_line script h l k low w in
+    (let r = landing_line script h l k low most w in
     subst (λ ys. NoneFlies (h ++ (bare (Flying l k) ∷ ys))) (sym (ap lines_in r.is_line)) (move_lines script h l k r.line r.own r.grounds w))
 
 move_grounds : (script : Script) (h : History) (l : Lane) (o : Outcome) → Legal script h → work script h (Work.Take l) ≡ o → NoneFlies h → NoneFlies (h ++ lines_in (move_after script l h o))
@@ -363,6 +368,7 @@ sends_head script h lines act l s t (closes lane b p n) = absurd (cc)
 sends_head script h lines act l s t (begins_flight lane k a none e m ha p) = absurd (cc)
 sends_head script h lines act l s t (cuts_queued lane k c none e m) = absurd (cc)
 sends_head script h lines act l s t (lands lane k f m p) = absurd (cc)
+sends_head script h lines act l s t (tries_again lane k f m p) = absurd (cc)
 sends_head script h lines act l s t (fails lane k kind f m p) = absurd (cc)
 sends_head script h lines act l s t (cuts_flight lane k c f m) = absurd (cc)
 sends_head script h lines act l s t (comes_home lane e) = absurd (cc)

@@ -1,5 +1,6 @@
 -- What holds of a history after which no step fits.
 use Rattle.un_journal.proofs.Steps.Landings.{land_line}
+use Rattle.un_journal.proofs.Lanes.Attempts.{legal_attempts}
 use Rattle.std.proofs.Common.{◌≡◌, ℕ, zero, suc, ◌+◌, ◌<◌, ◌≤◌, Bool, true, false, not, ◌&&◌, ◌||◌, List, [], ◌∷◌, ◌++◌, length, Option, Some, None, inl, inr, refl, sym, ap, ◌∙◌, arith, if◌then◌else◌, reverse, slice_get, is_some}
 use Rattle.std.specs.List.{list_all}
 use Rattle.std.proofs.lemmas.Bool.{false≢true, eq-eqb, cases_lt, or_left, or_right, and_parts, not-true}
@@ -20,7 +21,7 @@ use Rattle.un_journal.specs.declared.lines.Line.{Line}
 use Rattle.un_journal.specs.declared.controls.Control.{Control as Order}
 use Rattle.un_journal.specs.declared.controls.Due.{Due}
 use Rattle.un_journal.specs.Script.{Script, Frame}
-use Rattle.un_journal.specs.History.{History, past, first, taken, made, cover, built, took_last, posted, flies, flying, waits, waiting, ended, landed, failed, was_cut, opened, gave, arrived, current, left_of, delivered, mark, returned, halted, serial_of, dropped, for_serial, ends}
+use Rattle.un_journal.specs.History.{attempts, History, past, first, taken, made, cover, built, took_last, posted, flies, flying, waits, waiting, ended, landed, failed, was_cut, opened, gave, arrived, current, left_of, delivered, mark, returned, halted, serial_of, dropped, for_serial, ends}
 use Rattle.un_journal.specs.Lookup.{phase_of, works, is_awake, is_asleep, is_stopping, is_leaving, controls_done, feed_head, tx_home, rx_home, offer_needs_home, tick_needs_home, pending, queued, unmarked, span_after_took, block_open, claim}
 use Rattle.un_journal.specs.LaneSteps.{Outcome, Writes, Answers}
 use Rattle.un_journal.specs.Step.{Work, work, is_still, lane_works, quiet, all_home, hinders, is_due, land_from}
@@ -135,7 +136,7 @@ module _ (script : Script) (h : History) (pools : HavePools script.params) (lega
       go : (xs : List ℕ) → flying (past l h) ≡ xs → flying (past l h) ≡ []
       go [] e = e
       go (k ∷ ks) e =
-          let r = land_line script l k (mark (past l h) k) in
+          let r = land_line script l k (attempts (past l h) k) (mark (past l h) k) (legal_attempts script h legal l k) in
           absurd (none (Works (Work.Land l)) _ (outcome_fits script h (r.line ∷ []) (Works (Work.Land l)) (ap (λ xs. land_from script l (past l h) xs) e ∙ r.is_line)))
 
   grounded : (l : Lane) (k : ℕ) → flies (past l h) k ≡ false

@@ -5,6 +5,8 @@ use Rattle.un_frame.specs.declared.params.Lane.{Lane}
 use Rattle.un_frame.specs.declared.kinds.Phase.{Phase}
 use Rattle.un_frame.specs.declared.kinds.Phase.TheVariants.{Up, Asleep}
 use Rattle.un_frame.specs.declared.kinds.FaultKind.{FaultKind}
+use Rattle.un_frame.specs.declared.kinds.Planned.{Planned}
+use Rattle.un_frame.specs.declared.kinds.Planned.TheVariants.{Clean, Proto, Halt}
 use Rattle.un_frame.specs.declared.params.Params.{Params}
 use Rattle.un_frame.specs.declared.kinds.Verdict.{Verdict}
 use Rattle.un_frame.specs.declared.kinds.Verdict.TheVariants.{Take, Short, Long, Filtered}
@@ -13,14 +15,15 @@ use Rattle.un_journal.specs.declared.lines.Line.{Line}
 use Rattle.un_journal.specs.declared.lines.Line.TheVariants.{Took, Refused, Failed, Cut, Dropped, Gave, Settled}
 use Rattle.un_journal.specs.declared.controls.Control.{Control as Order}
 use Rattle.un_journal.specs.declared.controls.Due.{Due}
+use Rattle.un_frame.specs.Attempts.{FailsAfter, ArrivesLast}
 use Rattle.un_journal.specs.Script.{Script, Frame, frames_of, planned, planned_in}
-use Rattle.un_journal.specs.History.{History, past, concerns, taken, consumed, failed, was_cut, dropped, gave, given, serial_of, for_serial, row_from, more_if}
+use Rattle.un_journal.specs.History.{Entry, History, attempts, past, concerns, taken, consumed, failed, was_cut, dropped, gave, given, serial_of, for_serial, row_from, more_if}
 use Rattle.un_journal.specs.Lookup.{phase_of, phase_after, after_order, after_control, is_awake, is_stopping, is_leaving, controls_done, feed_head}
 use Rattle.un_journal.specs.Places.{IsRising, IsBelowAll, IsAllBelow}
-use Rattle.un_journal.specs.Licence.{Cuts, Stops, AllLicensed}
+use Rattle.un_journal.specs.Licence.{Cuts, Stops, Licensed, AllLicensed}
 use Rattle.un_journal.proofs.Bounds.Parameters.{HavePools}
 use Rattle.un_journal.specs.Done.{IsFinished, IsSpread}
-use Rattle.un_journal.specs.Loss.{LosesNothing, is_take, accepted, good_frames}
+use Rattle.un_journal.specs.Loss.{LosesNothing, loses, is_take, accepted, good_frames}
 use Rattle.un_journal.specs.Fits.{IsDone}
 use Rattle.un_journal.proofs.Lanes.GivenOrder.{given_rises, given_taken}
 use Rattle.un_journal.proofs.Steps.StaySound.{legal_good, Good}
@@ -33,11 +36,21 @@ use Rattle.un_journal.proofs.Finish.Finished.{done_finished}
 
 -- NOTHING IS LOST
 
-no_plan : (script : Script) (l : Lane) (k : ℕ) (kind : FaultKind) → script.faults ≡ [] → planned script l k ≡ Some kind → ⊥
-no_plan script l k kind e p = none (ap (λ faults. planned_in faults l k) (sym e) ∙ p)
-  where
-    none : None ≡ Some kind → ⊥
-    none q = cc
+no_plan : (p : Planned) (r : ℕ) (kind : FaultKind) → ArrivesLast p → FailsAfter p r kind → ⊥
+no_plan Clean r kind e w = w
+no_plan (Proto times) r kind e w = let low : times ≤ 3 = e in let less : r < times = w.0 in let three : r ≡ 3 = w.1 in omega arith
+no_plan Halt r kind e w = e
+
+-- where the script has no fault and no control, no line that loses anything is licensed
+no_control : (c : ℕ) (due : Due) → slice_get [] c ≡ Some due → ⊥
+no_control c due q = cc
+
+pub plain_line : (script : Script) (older : History) (e : Entry) → script.faults ≡ [] → script.controls ≡ [] → Licensed script older e → loses e.0 ≡ false
+plain_line script older (Failed l k kind, bytes) faults controls w =
+    absurd (subst (λ fs. FailsAfter (planned_in fs l k) (attempts (filter (concerns l) older) k) kind) faults w.by_plan)
+plain_line script older (Cut l k c, bytes) faults controls w = absurd (no_control c w.due (subst (λ cs. slice_get cs c ≡ Some w.due) controls w.is_control))
+plain_line script older (Dropped l a b c, bytes) faults controls w = absurd (no_control c w.due (subst (λ cs. slice_get cs c ≡ Some w.due) controls w.is_control))
+plain_line script older (e, bytes) faults controls w = refl
 
 no_cut : (order : Order) (l : Lane) → (order ≡ Order.Suspend) ⊎ (order ≡ Order.Resume) → Cuts order l → ⊥
 no_cut order l (inl e) c = subst (λ o. Cuts o l) e c
@@ -54,7 +67,7 @@ pub record Unlost (g : History) (k : ℕ) : Type 0 where
 
 unlost : (script : Script) → LosesNothing script → (older : History) → AllLicensed script older → (l : Lane) (k : ℕ) → Unlost (filter (concerns l) older) k
 unlost script w [] all l k = record { not_failed = refl; not_cut = refl; not_dropped = refl }
-unlost script w ((Failed l' j kind, bytes) ∷ older) all l k = absurd (no_plan script l' j kind w.no_fault all.0.is_planned)
+unlost script w ((Failed l' j kind, bytes) ∷ older) all l k = absurd (no_plan (planned script l' j) _ kind (w.no_fault l' j) all.0.by_plan)
 unlost script w ((Cut l' j c, bytes) ∷ older) all l k = absurd (no_cut all.0.due.control l' (w.only_sleeps c all.0.due all.0.is_control) all.0.is_kind)
 unlost script w ((Dropped l' a b c, bytes) ∷ older) all l k = absurd (no_stop all.0.due.control (w.only_sleeps c all.0.due all.0.is_control) all.0.is_kind)
 unlost script w (e ∷ older) all l k = go (concerns l e) (unlost script w older all.1 l k)

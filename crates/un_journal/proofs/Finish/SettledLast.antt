@@ -21,7 +21,7 @@ use Rattle.un_journal.specs.LaneSteps.{bare}
 use Rattle.un_journal.specs.Step.{all_home, settled_line}
 use Rattle.un_journal.specs.Done.{is_gone}
 use Rattle.un_journal.specs.Sound.{IsSound}
-use Rattle.un_journal.specs.Fits.{Act, Fits, takes, refuses, waits_once, closes, begins_flight, cuts_queued, lands, fails, cuts_flight, comes_home, opens, gives, posts_one, marks, recalls_one, clears, settles, orders, orders_forced, Legal, begins, goes_on, after_took}
+use Rattle.un_journal.specs.Fits.{Act, Fits, takes, refuses, waits_once, closes, begins_flight, cuts_queued, lands, tries_again, fails, cuts_flight, comes_home, opens, gives, posts_one, marks, recalls_one, clears, settles, orders, orders_forced, Legal, begins, goes_on, after_took}
 use Rattle.un_journal.specs.Unplug.{EndsSettled}
 use Rattle.un_journal.proofs.Lists.Passing.{those_first, those_count, those_less}
 use Rattle.un_journal.proofs.Lanes.SerialOrder.{is_up}
@@ -168,6 +168,7 @@ module _ (script : Script) (h : History) (legal : Legal script h) (gone : phase_
     none_fits act lines (begins_flight lane k a none e m ha p) = none_queued lane k e
     none_fits act lines (cuts_queued lane k c none e m) = none_queued lane k e
     none_fits act lines (lands lane k f m p) = grounded lane k f
+    none_fits act lines (tries_again lane k f m p) = grounded lane k f
     none_fits act lines (fails lane k kind f m p) = grounded lane k f
     none_fits act lines (cuts_flight lane k c f m) = grounded lane k f
     none_fits act lines (comes_home lane e) =
@@ -200,6 +201,7 @@ step_case script h lines act (closes lane b p n) = keeps _ (refl, tt)
 step_case script h lines act (begins_flight lane k a none e m ha p) = keeps _ (refl, tt)
 step_case script h lines act (cuts_queued lane k c none e m) = keeps _ (refl, tt)
 step_case script h lines act (lands lane k f m p) = keeps _ (refl, tt)
+step_case script h lines act (tries_again lane k f m p) = keeps _ (refl, tt)
 step_case script h lines act (fails lane k kind f m p) = keeps _ (refl, tt)
 step_case script h lines act (cuts_flight lane k c f m) = keeps _ (refl, tt)
 step_case script h lines act (comes_home lane e) = keeps _ (refl, tt)

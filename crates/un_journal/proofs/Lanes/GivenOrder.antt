@@ -1,5 +1,5 @@
 -- In a sound lane the numbers that are given rise strictly and are below the number of datagrams accepted.
-use Rattle.std.proofs.Common.{◌≡◌, ℕ, ◌+◌, ◌<◌, ◌≤◌, Bool, true, false, ◌||◌, ◌==◌, List, [], ◌∷◌, ◌++◌, Option, Some, None, inl, inr, refl, sym, ap, ◌∙◌, arith}
+use Rattle.std.proofs.Common.{◌≡◌, ℕ, ◌+◌, ◌<◌, ◌≤◌, Bool, true, false, ◌||◌, ◌==◌, List, [], ◌∷◌, ◌++◌, Option, Some, inl, inr, refl, sym, ap, ◌∙◌, arith}
 use Rattle.std.proofs.lemmas.Bool.{false≢true, eqb-true, eqb-false, eq-eqb, cases_lt, cases_order, or_cases, or_right, or_left, true_from_ne_false}
 use Rattle.std.proofs.lemmas.Option.{same_Some, none-some}
 use Rattle.un_facts.specs.Numbers.{within}

@@ -12,7 +12,7 @@ use Rattle.un_frame.specs.declared.params.Lane.TheVariants.{Outward, Inward}
 use Rattle.un_frame.specs.declared.kinds.Phase.{Phase}
 use Rattle.un_frame.specs.declared.kinds.Phase.TheVariants.{Up, Asleep, Stopping, Leaving, Down, Away}
 use Rattle.un_frame.specs.Lanes.{same_lane}
-use Rattle.un_journal.specs.declared.lines.Line.TheVariants.{Made, Flying, Landed, Failed, Cut, Dropped, Opened, Gave}
+use Rattle.un_journal.specs.declared.lines.Line.TheVariants.{Made, Flying, Landed, Failed, Retried, Cut, Dropped, Opened, Gave}
 use Rattle.un_journal.specs.History.{Entry, History, past, concerns, made, cover, flies, waits, landed, opened, gave, span, span_numbers, serial_of, waiting, flying, arrived, current, left_of, first, row_from, told_if}
 use Rattle.un_journal.specs.Lookup.{queued}
 use Rattle.un_journal.specs.Sound.{IsSound, Follows, IsNext, IsNextSpan, IsFirstArrived, IsNextNumber}
@@ -76,6 +76,7 @@ fresh ((Made l j a b, bytes) ∷ g) sound k h = fresh g sound.1 k (omega arith)
 fresh ((Flying l j, bytes) ∷ g) sound k h = fresh_if (j == k) (status g k) Aloft (not_next g j k h sound.0) (fresh g sound.1 k h)
 fresh ((Landed l j, bytes) ∷ g) sound k h = let q = fresh g sound.1 k h in fresh_if (j == k) (status g k) Arrived (not_flying g sound.1 j k q sound.0) q
 fresh ((Failed l j kind, bytes) ∷ g) sound k h = let q = fresh g sound.1 k h in fresh_if (j == k) (status g k) Faulted (not_flying g sound.1 j k q sound.0) q
+fresh ((Retried l j n, bytes) ∷ g) sound k h = let q = fresh g sound.1 k h in fresh_if (j == k) (status g k) Quiet (not_flying g sound.1 j k q sound.0) q
 fresh ((Cut l j c, bytes) ∷ g) sound k h = let q = fresh g sound.1 k h in fresh_if (j == k) (status g k) Severed (not_cut g sound.1 j k h q sound.0) q
 fresh (e ∷ g) sound k h = fresh g sound.1 k h
 

@@ -10,9 +10,9 @@ use Rattle.un_frame.specs.declared.params.Lane.{Lane}
 use Rattle.un_frame.specs.declared.params.Lane.TheVariants.{Outward, Inward}
 use Rattle.un_frame.specs.declared.params.Params.{Params}
 use Rattle.un_frame.specs.Lanes.{packs, tx_size, rx_size}
-use Rattle.un_journal.specs.declared.lines.Line.TheVariants.{Took, Made, Posted, Flying, Landed, Failed, Cut, Dropped, TxHome, Gave, Recalled}
+use Rattle.un_journal.specs.declared.lines.Line.TheVariants.{Took, Made, Posted, Flying, Landed, Failed, Retried, Cut, Dropped, TxHome, Gave, Recalled}
 use Rattle.un_journal.specs.Script.{Script}
-use Rattle.un_journal.specs.History.{Entry, History, past, concerns, those, taken, made, cover, took_last, posts, recalls, flights, failures, flight_cuts, posted, flies, ended, landed, failed, was_cut, gave, span, span_numbers, left_of, delivered, returned, more_if, ends, count_of}
+use Rattle.un_journal.specs.History.{Entry, History, past, concerns, those, taken, made, cover, took_last, posts, recalls, flights, failures, retries, flight_cuts, posted, flies, ended, landed, failed, was_cut, gave, span, span_numbers, left_of, delivered, returned, more_if, ends, count_of}
 use Rattle.un_journal.specs.Lookup.{phase_after, block_claims, tx_home, rx_home, claim, rx_back}
 use Rattle.un_journal.specs.Step.{all_home, away}
 use Rattle.un_journal.specs.Sound.{IsSound, IsNext}
@@ -44,21 +44,24 @@ pub up_of : (g : History) → IsSound g → (k : ℕ) → flies g k ≡ true →
 up_of g sound k f = ((in_order g sound k).aloft (sym (status_of g sound k).flies_is ∙ f)).1
 
 -- each flight landed, failed, was cut or is up
-pub flight_sum : (g : History) → IsSound g → flights g ≡ landed_lines g + failures g + flight_cuts g + one_if (is_up g)
+pub flight_sum : (g : History) → IsSound g → flights g ≡ landed_lines g + failures g + retries g + flight_cuts g + one_if (is_up g)
 flight_sum [] sound = refl
 flight_sum ((Flying l k, bytes) ∷ g) sound =
-    let e : flights g ≡ landed_lines g + failures g + flight_cuts g + one_if (is_up g) = flight_sum g sound.1 in
+    let e : flights g ≡ landed_lines g + failures g + retries g + flight_cuts g + one_if (is_up g) = flight_sum g sound.1 in
     let none : one_if (is_up g) ≡ 0 = ap one_if (none_up g sound.1 (in_order g sound.1) k sound.0) in omega arith
 flight_sum ((Landed l k, bytes) ∷ g) sound =
-    let e : flights g ≡ landed_lines g + failures g + flight_cuts g + one_if (is_up g) = flight_sum g sound.1 in
+    let e : flights g ≡ landed_lines g + failures g + retries g + flight_cuts g + one_if (is_up g) = flight_sum g sound.1 in
     let up : one_if (is_up g) ≡ 1 = ap one_if (up_of g sound.1 k sound.0) in omega arith
 flight_sum ((Failed l k kind, bytes) ∷ g) sound =
-    let e : flights g ≡ landed_lines g + failures g + flight_cuts g + one_if (is_up g) = flight_sum g sound.1 in
+    let e : flights g ≡ landed_lines g + failures g + retries g + flight_cuts g + one_if (is_up g) = flight_sum g sound.1 in
+    let up : one_if (is_up g) ≡ 1 = ap one_if (up_of g sound.1 k sound.0) in omega arith
+flight_sum ((Retried l k n, bytes) ∷ g) sound =
+    let e : flights g ≡ landed_lines g + failures g + retries g + flight_cuts g + one_if (is_up g) = flight_sum g sound.1 in
     let up : one_if (is_up g) ≡ 1 = ap one_if (up_of g sound.1 k sound.0) in omega arith
 flight_sum ((Cut l k c, bytes) ∷ g) sound = go sound.0 (flight_sum g sound.1)
   where
-    go : (flies g k ≡ true) ⊎ IsNext g k → flights g ≡ landed_lines g + failures g + flight_cuts g + one_if (is_up g)
-        → flights g ≡ landed_lines g + failures g + more_if (flies g k) (flight_cuts g) + 0
+    go : (flies g k ≡ true) ⊎ IsNext g k → flights g ≡ landed_lines g + failures g + retries g + flight_cuts g + one_if (is_up g)
+        → flights g ≡ landed_lines g + failures g + retries g + more_if (flies g k) (flight_cuts g) + 0
     go (inl f) e = let up : one_if (is_up g) ≡ 1 = ap one_if (up_of g sound.1 k f) in rw f (omega arith)
     go (inr n) e = let none : one_if (is_up g) ≡ 0 = ap one_if (none_up g sound.1 (in_order g sound.1) k n) in rw (n.is_alone k) (omega arith)
 flight_sum (e ∷ g) sound = flight_sum g sound.1
@@ -235,6 +238,7 @@ rx_least script l ((Posted l', bytes) ∷ g) sound all =
     let e : posts g ≤ rx_back script.params l g = rx_least script l g sound.1 all.1 in let some : 0 < rx_back script.params l g - posts g = all.0.rule.1 in omega arith
 rx_least script l ((Recalled l', bytes) ∷ g) sound all = let e : posts g ≤ rx_back script.params l g = rx_least script l g sound.1 all.1 in omega arith
 rx_least script l ((Failed l' k kind, bytes) ∷ g) sound all = let e : posts g ≤ rx_back script.params l g = rx_least script l g sound.1 all.1 in omega arith
+rx_least script l ((Retried l' k n, bytes) ∷ g) sound all = let e : posts g ≤ rx_back script.params l g = rx_least script l g sound.1 all.1 in omega arith
 rx_least script l ((Cut l' k c, bytes) ∷ g) sound all =
     let e : posts g ≤ rx_back script.params l g = rx_least script l g sound.1 all.1 in
     let more : flight_cuts g ≤ more_if (flies g k) (flight_cuts g) = more_least (flies g k) (flight_cuts g) in omega arith
@@ -266,7 +270,7 @@ home_sums script l g sound all =
     let tx : made g + claim script.params l g ≤ tx_size script.params l + returned g = tx_least script l g sound all in
     let rx : posts g ≤ rx_back script.params l g = rx_least script l g sound all in
     let po : recalls g + flights g ≤ posts g = posted_least script l g all in
-    let fl : flights g ≡ landed_lines g + failures g + flight_cuts g + one_if (is_up g) = flight_sum g sound in
+    let fl : flights g ≡ landed_lines g + failures g + retries g + flight_cuts g + one_if (is_up g) = flight_sum g sound in
     let de : length (delivered g) ≤ landed_lines g = delivered_landed g sound in
     let re : returned g ≤ ends g = returned_ends g sound in
     let en : ends g + one_if (is_up g) ≤ made g = ends_made g sound in

@@ -1,7 +1,7 @@
 -- In a sound lane transfers end, are opened and are given in the order of their serials.
 use Rattle.std.proofs.Common.{◌≡◌, ℕ, ◌+◌, ◌<◌, ◌≤◌, Bool, true, false, not, ◌&&◌, ◌||◌, ◌==◌, [], ◌∷◌, ◌⊎◌, inl, inr, refl, sym, ◌∙◌, subst, arith, if◌then◌else◌}
 use Rattle.std.proofs.lemmas.Bool.{false≢true, eqb-true, eqb-false, eq-eqb, cases_lt, cases_Bool}
-use Rattle.un_journal.specs.declared.lines.Line.TheVariants.{Flying, Landed, Failed, Cut}
+use Rattle.un_journal.specs.declared.lines.Line.TheVariants.{Flying, Landed, Failed, Retried, Cut}
 use Rattle.un_journal.specs.History.{History, flies, waits, landed, failed, was_cut, ends}
 use Rattle.un_journal.specs.Sound.{IsSound, IsNext}
 use Rattle.un_journal.proofs.Lanes.Status.{Status, Quiet, Aloft, Arrived, Faulted, Severed, Reads, status, status_of, is_aloft, is_arrived, is_faulted, is_severed}
@@ -12,6 +12,7 @@ is_up [] = false
 is_up ((Flying l k, bytes) ∷ g) = true
 is_up ((Landed l k, bytes) ∷ g) = false
 is_up ((Failed l k kind, bytes) ∷ g) = false
+is_up ((Retried l k n, bytes) ∷ g) = false
 is_up ((Cut l k c, bytes) ∷ g) = false
 is_up (e ∷ g) = is_up g
 
@@ -111,6 +112,21 @@ end_at g j t over flat je w k =
     end_flight (j == k) (is_up g) k (ends g) (status g k) t over flat (same_yes j k (ends g) je) (same_no j k (ends g) je) (w k)
     (λ u ke. eq-eqb j k (je ∙ sym ke)) (λ a. eq-eqb j k (je ∙ sym ((w k).aloft a).0))
 
+-- one that flies waits again: it stays the one after those that are over
+wait_at : (b up : Bool) (k e : ℕ) (s : Status) → (b ≡ true → k ≡ e) → InOrder k e up s → (is_aloft s ≡ true → b ≡ true) → InOrder k e false (if b then Quiet else s)
+wait_at true up k e s same w y = record {
+  below = λ h. absurd (let k≡e : k ≡ e = same refl in omega arith);
+  above = λ h. refl;
+  aloft = λ h. absurd (false≢true h);
+  aloft_at = λ h i. absurd (false≢true h);
+}
+wait_at false up k e s same w y = record {
+  below = w.below;
+  above = w.above;
+  aloft = λ h. absurd (false≢true (y h));
+  aloft_at = λ h i. absurd (false≢true h);
+}
+
 begin_at : (g : History) (j : ℕ) → IsSound g → IsNext g j → Ordered g → (k : ℕ) → InOrder k (ends g) true (if j == k then Aloft else status g k)
 begin_at g j sound n w k =
     let je : j ≡ ends g = next_is g sound w j n in
@@ -127,5 +143,9 @@ in_order [] sound k = record { below = λ h. absurd (omega arith); above = λ h.
 in_order ((Flying l j, bytes) ∷ g) sound k = begin_at g j sound.1 sound.0 (in_order g sound.1) k
 in_order ((Landed l j, bytes) ∷ g) sound k = end_at g j Arrived refl refl (flight_is g sound.1 (in_order g sound.1) j sound.0) (in_order g sound.1) k
 in_order ((Failed l j kind, bytes) ∷ g) sound k = end_at g j Faulted refl refl (flight_is g sound.1 (in_order g sound.1) j sound.0) (in_order g sound.1) k
+in_order ((Retried l j n, bytes) ∷ g) sound k =
+    let je : j ≡ ends g = flight_is g sound.1 (in_order g sound.1) j sound.0 in
+    wait_at (j == k) (is_up g) k (ends g) (status g k) (same_yes j k (ends g) je) (in_order g sound.1 k)
+    (λ a. eq-eqb j k (je ∙ sym ((in_order g sound.1 k).aloft a).0))
 in_order ((Cut l j c, bytes) ∷ g) sound k = end_at g j Severed refl refl (cut_is_at g j sound.1 (in_order g sound.1) sound.0) (in_order g sound.1) k
 in_order (e ∷ g) sound k = in_order g sound.1 k

@@ -1,7 +1,7 @@
 -- Each transfer of a sound lane has one status, and every look-up on it is read from that.
 use Rattle.std.proofs.Common.{◌≡◌, ℕ, Bool, true, false, not, ◌&&◌, ◌||◌, ◌==◌, [], ◌∷◌, ◌⊎◌, inl, inr, refl, sym, ◌∙◌, subst, if◌then◌else◌}
 use Rattle.std.proofs.lemmas.Bool.{false≢true, eqb-true}
-use Rattle.un_journal.specs.declared.lines.Line.TheVariants.{Flying, Landed, Failed, Cut}
+use Rattle.un_journal.specs.declared.lines.Line.TheVariants.{Flying, Landed, Failed, Retried, Cut}
 use Rattle.un_journal.specs.History.{History, flies, waits, landed, failed, was_cut}
 use Rattle.un_journal.specs.Sound.{IsSound, IsNext}
 
@@ -33,6 +33,7 @@ status [] k = Quiet
 status ((Flying l j, bytes) ∷ g) k = if j == k then Aloft else status g k
 status ((Landed l j, bytes) ∷ g) k = if j == k then Arrived else status g k
 status ((Failed l j kind, bytes) ∷ g) k = if j == k then Faulted else status g k
+status ((Retried l j n, bytes) ∷ g) k = if j == k then Quiet else status g k
 status ((Cut l j c, bytes) ∷ g) k = if j == k then Severed else status g k
 status (e ∷ g) k = status g k
 
@@ -75,6 +76,11 @@ fail : (b f l x c : Bool) (s : Status) → Reads f l x c s → (b ≡ true → N
 fail true f l x c s r h = let n = h refl in record { flies_is = refl; landed_is = n.not_landed; failed_is = refl; cut_is = n.not_cut }
 fail false f l x c s r h = r
 
+-- one that is tried again waits once more
+wait_again : (b f l x c : Bool) (s : Status) → Reads f l x c s → (b ≡ true → NoneEnded l x c) → Reads (not b && f) l x c (if b then Quiet else s)
+wait_again true f l x c s r h = let n = h refl in record { flies_is = refl; landed_is = n.not_landed; failed_is = n.not_failed; cut_is = n.not_cut }
+wait_again false f l x c s r h = r
+
 sever : (b f l x c : Bool) (s : Status) → Reads f l x c s → (b ≡ true → NoneEnded l x c) → Reads (not b && f) l x (b || c) (if b then Severed else s)
 sever true f l x c s r h = let n = h refl in record { flies_is = refl; landed_is = n.not_landed; failed_is = n.not_failed; cut_is = refl }
 sever false f l x c s r h = r
@@ -108,6 +114,8 @@ status_of ((Landed l j, bytes) ∷ g) sound k =
     let r = status_of g sound.1 k in land (j == k) (flies g k) _ _ _ (status g k) r (flying_open g j k r sound.0)
 status_of ((Failed l j kind, bytes) ∷ g) sound k =
     let r = status_of g sound.1 k in fail (j == k) (flies g k) _ _ _ (status g k) r (flying_open g j k r sound.0)
+status_of ((Retried l j n, bytes) ∷ g) sound k =
+    let r = status_of g sound.1 k in wait_again (j == k) (flies g k) _ _ _ (status g k) r (flying_open g j k r sound.0)
 status_of ((Cut l j c, bytes) ∷ g) sound k =
     let r = status_of g sound.1 k in sever (j == k) (flies g k) _ _ _ (status g k) r (cut_open g j k r sound.0)
 status_of (e ∷ g) sound k = status_of g sound.1 k

@@ -1,5 +1,5 @@
 -- How many lines pass a test, and how many bytes lines carry.
-use Rattle.std.proofs.Common.{◌≡◌, ◌+◌, ◌≤◌, Bool, true, false, ◌||◌, [], ◌∷◌, ◌++◌, length, arith, if◌then◌else◌, filter, reverse}
+use Rattle.std.proofs.Common.{◌≡◌, ◌+◌, ◌≤◌, Bool, true, false, [], ◌∷◌, ◌++◌, length, arith, if◌then◌else◌, filter, reverse}
 use Rattle.std.proofs.lemmas.Bool.{or_right}
 use Rattle.std.proofs.lemmas.List.{length-reverse}
 use Rattle.un_frame.specs.declared.params.Lane.{Lane}

@@ -1,5 +1,5 @@
 -- Numbers that pass a test, in order: the first of them, how many there are, and what one more or one less changes.
-use Rattle.std.proofs.Common.{◌≡◌, ℕ, zero, suc, ◌+◌, ◌<◌, ◌≤◌, Bool, true, false, List, [], ◌∷◌, ◌++◌, Some, None, ◌⊎◌, inl, inr, refl, ap, ◌∙◌, subst, arith, if◌then◌else◌, filter, ◌≢◌, ◌==◌, sym, ◌-◌, ◌||◌, length, length-append}
+use Rattle.std.proofs.Common.{◌≡◌, ℕ, zero, suc, ◌+◌, ◌<◌, ◌≤◌, Bool, true, false, List, [], ◌∷◌, ◌++◌, Some, None, ◌⊎◌, inl, inr, refl, ap, ◌∙◌, subst, arith, if◌then◌else◌, filter, ◌==◌, sym, ◌||◌, length, length-append}
 use Rattle.std.proofs.lemmas.Bool.{cases_lt, false≢true, eq-eqb, cases_eq, or_right, or_cases, or_left}
 use Rattle.std.proofs.lemmas.Option.{same_Some, none-some}
 use Rattle.un_facts.proofs.Lists.{cons_parts}

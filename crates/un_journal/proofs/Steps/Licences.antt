@@ -21,7 +21,7 @@ use Rattle.un_journal.specs.Lookup.{phase_of, phase_after, after_order, after_co
 use Rattle.un_journal.specs.Licence.{Cuts, Stops, IsCause, IsOrder, Licensed, AllLicensed}
 use Rattle.un_journal.specs.LaneSteps.{bare}
 use Rattle.un_journal.specs.Step.{all_home, made_if, cut_each, marked_each, recalled_each, dropped_built, order_lines}
-use Rattle.un_journal.specs.Fits.{Act, Fits, takes, refuses, waits_once, closes, begins_flight, cuts_queued, lands, fails, cuts_flight, comes_home, opens, gives, posts_one, marks, recalls_one, clears, settles, orders, orders_forced, Legal, begins, goes_on, after_took}
+use Rattle.un_journal.specs.Fits.{Act, Fits, takes, refuses, waits_once, closes, begins_flight, cuts_queued, lands, tries_again, fails, cuts_flight, comes_home, opens, gives, posts_one, marks, recalls_one, clears, settles, orders, orders_forced, Legal, begins, goes_on, after_took}
 
 -- a later line takes no control back
 later_done : (e : Entry) (older : History) → controls_done older ≤ controls_done (e ∷ older)
@@ -204,7 +204,8 @@ step_licensed script h lines act all (closes lane b p n) = licensed_one script h
 step_licensed script h lines act all (begins_flight lane k a none e m ha p) = licensed_one script h _ all tt
 step_licensed script h lines act all (cuts_queued lane k c none e m) = licensed_one script h _ all (mark_cause script (reverse h) all lane k c m)
 step_licensed script h lines act all (lands lane k f m p) = licensed_one script h _ all tt
-step_licensed script h lines act all (fails lane k kind f m p) = licensed_one script h _ all (record { is_planned = p; is_unmarked = m })
+step_licensed script h lines act all (tries_again lane k f m p) = licensed_one script h _ all (record { by_plan = (p, refl); is_unmarked = m })
+step_licensed script h lines act all (fails lane k kind f m p) = licensed_one script h _ all (record { by_plan = p; is_unmarked = m })
 step_licensed script h lines act all (cuts_flight lane k c f m) = licensed_one script h _ all (mark_cause script (reverse h) all lane k c m)
 step_licensed script h lines act all (comes_home lane e) = licensed_one script h _ all tt
 step_licensed script h lines act all (opens lane k none e) = licensed_one script h _ all tt

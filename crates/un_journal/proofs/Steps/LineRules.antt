@@ -1,5 +1,5 @@
 -- Every line of a legal history keeps its rule.
-use Rattle.std.proofs.Common.{◌≡◌, ◌≢◌, ℕ, zero, suc, ◌+◌, ◌-◌, ◌<◌, ◌≤◌, Bool, true, false, not, ◌&&◌, ◌||◌, ◌==◌, List, [], ◌∷◌, ◌++◌, Option, Some, None, ◌⊎◌, inl, inr, refl, sym, ap, ◌∙◌, subst, arith, if◌then◌else◌, slice_get, filter, reverse, append-nil, nat_lt, is_some}
+use Rattle.std.proofs.Common.{◌≡◌, ℕ, zero, suc, ◌+◌, ◌-◌, ◌<◌, ◌≤◌, Bool, true, false, not, ◌&&◌, ◌||◌, ◌==◌, List, [], ◌∷◌, ◌++◌, Option, Some, None, ◌⊎◌, inl, inr, refl, sym, ap, ◌∙◌, subst, arith, if◌then◌else◌, slice_get, filter, reverse, append-nil, nat_lt, is_some}
 use Rattle.std.proofs.lemmas.Bool.{false≢true, eqb-true, and_parts, lt-ltb, ne_eqb}
 use Rattle.un_frame.proofs.LaneLemmas.{same_lane-is}
 use Rattle.un_frame.specs.declared.params.Lane.{Lane}
@@ -16,7 +16,7 @@ use Rattle.un_journal.specs.History.{Entry, History, past, concerns, those, take
 use Rattle.un_journal.specs.Lookup.{phase_of, phase_after, after_order, after_control, works, is_awake, is_stopping, is_leaving, controls_done, block_open, block_claims, span_after_took, tx_home, rx_home, offer_needs_home, tick_needs_home, deferred, unmarked, is_deferring}
 use Rattle.un_journal.specs.LaneSteps.{bare}
 use Rattle.un_journal.specs.Step.{made_if, cut_each, marked_each, recalled_each, dropped_built, order_lines, all_home}
-use Rattle.un_journal.specs.Fits.{Act, Fits, takes, refuses, waits_once, closes, begins_flight, cuts_queued, lands, fails, cuts_flight, comes_home, opens, gives, posts_one, marks, recalls_one, clears, settles, orders, orders_forced, Legal, begins, goes_on, after_took}
+use Rattle.un_journal.specs.Fits.{Act, Fits, takes, refuses, waits_once, closes, begins_flight, cuts_queued, lands, tries_again, fails, cuts_flight, comes_home, opens, gives, posts_one, marks, recalls_one, clears, settles, orders, orders_forced, Legal, begins, goes_on, after_took}
 use Rattle.un_journal.proofs.Lists.Passing.{those_first}
 use Rattle.un_journal.proofs.Lists.NewestFirst.{onto, onto_append, reverse_onto, AllOf, filter_of, newest}
 use Rattle.un_journal.proofs.Lanes.GivenOrder.{cover_below}
@@ -275,6 +275,7 @@ step_ruled script h lines act low all (closes lane b p n) = one_ruled script lan
 step_ruled script h lines act low all (begins_flight lane k a none e m ha p) = one_ruled script lane _ h all refl (λ l. refl) (record { is_awake = a; is_unmarked = m; not_halted = ha; is_posted = p })
 step_ruled script h lines act low all (cuts_queued lane k c none e m) = one_ruled script lane _ h all refl (λ l. refl) tt
 step_ruled script h lines act low all (lands lane k f m p) = one_ruled script lane _ h all refl (λ l. refl) (m, p)
+step_ruled script h lines act low all (tries_again lane k f m p) = one_ruled script lane _ h all refl (λ l. refl) (m, p, refl)
 step_ruled script h lines act low all (fails lane k kind f m p) = one_ruled script lane _ h all refl (λ l. refl) (m, p)
 step_ruled script h lines act low all (cuts_flight lane k c f m) = one_ruled script lane _ h all refl (λ l. refl) tt
 step_ruled script h lines act low all (comes_home lane e) = one_ruled script lane _ h all refl (λ l. refl) tt

@@ -12,13 +12,14 @@ use Rattle.un_frame.specs.declared.kinds.Verdict.{Verdict}
 use Rattle.un_frame.specs.declared.kinds.Verdict.TheVariants.{Take, Short, Long, Filtered}
 use Rattle.un_frame.specs.Lanes.{packs}
 use Rattle.un_frame.specs.Verdict.{verdict_of}
-use Rattle.un_journal.specs.Script.{Script, Frame}
-use Rattle.un_journal.specs.History.{History, past, built, flies, flying, first, took_last, made, ends}
+use Rattle.un_journal.specs.Script.{Script, Frame, planned}
+use Rattle.un_journal.specs.History.{attempts, History, past, built, flies, flying, first, took_last, made, ends}
 use Rattle.un_journal.specs.Lookup.{phase_of, works, is_awake, is_asleep, pending, block_open, tx_home, offer_needs_home, span_after_took}
 use Rattle.un_journal.specs.LaneSteps.{Outcome, Writes, Answers, bare}
 use Rattle.un_journal.specs.Step.{judge, offer_head, made_if}
 use Rattle.un_journal.specs.Sound.{IsSound}
-use Rattle.un_journal.specs.Fits.{Act, Fits, takes, refuses, waits_once, closes, begins_flight, cuts_queued, lands, fails, cuts_flight, comes_home, opens, gives, posts_one, marks, recalls_one, clears, settles, orders, orders_forced, Legal, act_outcome, after_took}
+use Rattle.un_journal.proofs.Steps.Landings.{lands_writes, retries_writes, gives_up_writes}
+use Rattle.un_journal.specs.Fits.{Act, Fits, takes, refuses, waits_once, closes, begins_flight, cuts_queued, lands, tries_again, fails, cuts_flight, comes_home, opens, gives, posts_one, marks, recalls_one, clears, settles, orders, orders_forced, Legal, act_outcome, after_took}
 use Rattle.un_journal.specs.declared.lines.Line.{Line}
 use Rattle.un_journal.specs.declared.actions.Answer.{Answer}
 use Rattle.un_journal.proofs.Lanes.SerialOrder.{in_order, flight_is}
@@ -91,8 +92,9 @@ fits_outcome script h lines act good (waits_once lane p) = rw (some_zero _ (pend
 fits_outcome script h lines act good (closes lane b p n) = rw (some_zero _ b, p, and_zero _ _ n) refl
 fits_outcome script h lines act good (begins_flight lane k a none e m ha p) = let c = cons_from _ k e in rw (none, c.is, m, a, ha, some_zero _ p) refl
 fits_outcome script h lines act good (cuts_queued lane k c none e m) = let q = cons_from _ k e in rw (none, q.is, m) refl
-fits_outcome script h lines act good (lands lane k f m p) = let c = cons_from _ k (flight_first (past lane h) k (good.sound lane) f) in rw (c.is, m, p) refl
-fits_outcome script h lines act good (fails lane k kind f m p) = let c = cons_from _ k (flight_first (past lane h) k (good.sound lane) f) in rw (c.is, m, p) refl
+fits_outcome script h lines act good (lands lane k f m p) = let c = cons_from _ k (flight_first (past lane h) k (good.sound lane) f) in rw (c.is, m) (lands_writes lane k (attempts (past lane h) k) (planned script lane k) p)
+fits_outcome script h lines act good (tries_again lane k f m p) = let c = cons_from _ k (flight_first (past lane h) k (good.sound lane) f) in rw (c.is, m) (retries_writes lane k (attempts (past lane h) k) (planned script lane k) p)
+fits_outcome script h lines act good (fails lane k kind f m p) = let c = cons_from _ k (flight_first (past lane h) k (good.sound lane) f) in rw (c.is, m) (gives_up_writes lane k (attempts (past lane h) k) (planned script lane k) kind p)
 fits_outcome script h lines act good (cuts_flight lane k c f m) = let q = cons_from _ k (flight_first (past lane h) k (good.sound lane) f) in rw (q.is, m) refl
 fits_outcome script h lines act good (comes_home lane e) = rw e refl
 fits_outcome script h lines act good (opens lane k none e) = let c = cons_from _ k e in rw (none, c.is) refl

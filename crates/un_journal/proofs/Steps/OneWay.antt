@@ -11,7 +11,7 @@ use Rattle.un_journal.specs.History.{Entry, History, past, made, current}
 use Rattle.un_journal.specs.Lookup.{phase_of, controls_done, built_frames, span_after_took}
 use Rattle.un_journal.specs.LaneSteps.{datagram_bytes}
 use Rattle.un_journal.specs.Step.{made_if, order_lines}
-use Rattle.un_journal.specs.Fits.{Act, Fits, takes, refuses, waits_once, closes, begins_flight, cuts_queued, lands, fails, cuts_flight, comes_home, opens, gives, posts_one, marks, recalls_one, clears, settles, orders, orders_forced, Legal, begins, goes_on, IsDone, after_took}
+use Rattle.un_journal.specs.Fits.{Act, Fits, takes, refuses, waits_once, closes, begins_flight, cuts_queued, lands, tries_again, fails, cuts_flight, comes_home, opens, gives, posts_one, marks, recalls_one, clears, settles, orders, orders_forced, Legal, begins, goes_on, IsDone, after_took}
 use Rattle.un_journal.proofs.Finish.Drain.{fits_some, Extends, extends_same, extends_more}
 
 -- what follows the first line of a step
@@ -38,6 +38,7 @@ tail_is script h lines xs act e (closes lane b p n) q = cons_tail script h _ xs 
 tail_is script h lines xs act e (begins_flight lane k a none p m ha po) q = cons_tail script h _ xs _ e q refl
 tail_is script h lines xs act e (cuts_queued lane k c none p m) q = cons_tail script h _ xs _ e q refl
 tail_is script h lines xs act e (lands lane k f m p) q = cons_tail script h _ xs _ e q refl
+tail_is script h lines xs act e (tries_again lane k f m p) q = cons_tail script h _ xs _ e q refl
 tail_is script h lines xs act e (fails lane k kind f m p) q = cons_tail script h _ xs _ e q refl
 tail_is script h lines xs act e (cuts_flight lane k c f m) q = cons_tail script h _ xs _ e q refl
 tail_is script h lines xs act e (comes_home lane p) q = cons_tail script h _ xs _ e q refl
@@ -76,6 +77,7 @@ bytes_are script h lines xs act e (closes lane b p n) q = cons_bytes script h _ 
 bytes_are script h lines xs act e (begins_flight lane k a none p m ha po) q = cons_bytes script h _ xs _ e q refl
 bytes_are script h lines xs act e (cuts_queued lane k c none p m) q = cons_bytes script h _ xs _ e q refl
 bytes_are script h lines xs act e (lands lane k f m p) q = cons_bytes script h _ xs _ e q refl
+bytes_are script h lines xs act e (tries_again lane k f m p) q = cons_bytes script h _ xs _ e q refl
 bytes_are script h lines xs act e (fails lane k kind f m p) q = cons_bytes script h _ xs _ e q refl
 bytes_are script h lines xs act e (cuts_flight lane k c f m) q = cons_bytes script h _ xs _ e q refl
 bytes_are script h lines xs act e (comes_home lane p) q = cons_bytes script h _ xs _ e q refl

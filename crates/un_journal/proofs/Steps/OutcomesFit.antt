@@ -1,22 +1,25 @@
 -- The lines of every outcome are a step that fits.
-use Rattle.std.proofs.Common.{◌≡◌, ℕ, ◌-◌, ◌<◌, Bool, true, false, not, ◌&&◌, ◌||◌, ◌==◌, List, [], ◌∷◌, Option, Some, None, ◌⊎◌, inl, inr, refl, sym, ap, subst, arith, if◌then◌else◌, nat_lt, slice_get, reverse}
-use Rattle.std.proofs.lemmas.Bool.{false≢true, eqb-false, ltb-true, ltb-false, not-false}
+use Rattle.std.proofs.Common.{◌≡◌, ℕ, ◌-◌, ◌<◌, Bool, true, false, not, ◌&&◌, ◌||◌, ◌==◌, List, [], ◌∷◌, Option, Some, None, ◌⊎◌, inl, inr, refl, sym, ap, subst, arith, if◌then◌else◌, nat_lt, nat_le, slice_get, reverse}
+use Rattle.std.proofs.lemmas.Bool.{false≢true, eqb-true, eqb-false, leb-true, leb-false, ltb-true, ltb-false, not-false}
 use Rattle.un_frame.specs.declared.params.Lane.{Lane}
 use Rattle.un_frame.specs.declared.params.Lane.TheVariants.{Outward, Inward}
 use Rattle.un_frame.specs.declared.kinds.Phase.{Phase}
 use Rattle.un_frame.specs.declared.kinds.Phase.TheVariants.{Up, Asleep, Stopping, Leaving, Down, Away}
 use Rattle.un_frame.specs.declared.kinds.FaultKind.{FaultKind}
+use Rattle.un_frame.specs.declared.kinds.Planned.{Planned}
+use Rattle.un_frame.specs.declared.kinds.Planned.TheVariants.{Clean, Proto, Halt}
 use Rattle.un_frame.specs.declared.kinds.Verdict.{Verdict}
 use Rattle.un_frame.specs.declared.kinds.Verdict.TheVariants.{Take, Short, Long, Filtered}
 use Rattle.un_frame.specs.Verdict.{verdict_of}
 use Rattle.un_journal.specs.declared.actions.Answer.{Answer}
 use Rattle.un_journal.specs.declared.controls.Due.{Due}
+use Rattle.un_frame.specs.Attempts.{ArrivesAfter, RetriesAfter, FailsAfter}
 use Rattle.un_journal.specs.Script.{Script, Frame, planned}
-use Rattle.un_journal.specs.History.{History, past, taken, cover, built, flies, flying, posted, first, made, mark, ended, returned, halted, arrived, current, left_of}
+use Rattle.un_journal.specs.History.{History, past, taken, cover, built, flies, flying, posted, first, made, mark, attempts, ended, returned, halted, arrived, current, left_of}
 use Rattle.un_journal.specs.Lookup.{phase_of, works, is_awake, is_asleep, is_stopping, is_leaving, pending, tx_home, rx_home, offer_needs_home, tick_needs_home, feed_head, queued, unmarked, controls_done, span_after_took}
 use Rattle.un_journal.specs.LaneSteps.{Outcome, Writes, Answers, take_with, take_first, take_head, land_marked, land_planned, tx_done, rx_done_at, open_first, deliver_current, deliver_number, unlink_first, lines_in}
 use Rattle.un_journal.specs.Step.{judge, offer_head, tick, land_from, refill, unlink, clear_halt, settle, all_home, control_head, control_now, made_entry, control_forced, hinders, is_due, quiet, Work, Offer, Tick, Land, TxDone, RxDone, Deliver, Refill, Unlink, ClearHalt, Settle}
-use Rattle.un_journal.specs.Fits.{Act, Works, Controls, Fits, takes, refuses, waits_once, closes, begins_flight, cuts_queued, lands, fails, cuts_flight, comes_home, opens, gives, posts_one, marks, recalls_one, clears, settles, orders, orders_forced, act_outcome, after_took}
+use Rattle.un_journal.specs.Fits.{Act, Works, Controls, Fits, takes, refuses, waits_once, closes, begins_flight, cuts_queued, lands, tries_again, fails, cuts_flight, comes_home, opens, gives, posts_one, marks, recalls_one, clears, settles, orders, orders_forced, act_outcome, after_took}
 use Rattle.un_journal.proofs.Lists.Passing.{those_first}
 
 pub writes_same : (xs ys : History) → Writes xs ≡ Writes ys → xs ≡ ys
@@ -107,13 +110,26 @@ taken_from : (script : Script) (h : History) (lane : Lane) (xs : History) (ks : 
 taken_from script h lane xs [] e o = taken_first script h lane xs (queued (phase_of script h) lane (past lane h)) e refl o
 taken_from script h lane xs (k ∷ ks) e o = absurd (never_writes _ xs o)
 
-landed_plan : (script : Script) (h : History) (lane : Lane) (xs : History) (k : ℕ) (p : Option FaultKind) → flies (past lane h) k ≡ true → mark (past lane h) k ≡ None → planned script lane k ≡ p
-    → land_planned lane k p ≡ Writes xs → Fits script h (Works (Land lane)) xs
-landed_plan script h lane xs k None f m p o = subst (Fits script h (Works (Land lane))) (writes_same _ xs o) (lands lane k f m p)
-landed_plan script h lane xs k (Some kind) f m p o = subst (Fits script h (Works (Land lane))) (writes_same _ xs o) (fails lane k kind f m p)
+landed_plan : (script : Script) (h : History) (lane : Lane) (xs : History) (k : ℕ) (p : Planned) → flies (past lane h) k ≡ true → mark (past lane h) k ≡ None → planned script lane k ≡ p
+    → land_planned lane k (attempts (past lane h) k) p ≡ Writes xs → Fits script h (Works (Land lane)) xs
+landed_plan script h lane xs k Clean f m p o =
+    subst (Fits script h (Works (Land lane))) (writes_same _ xs o) (lands lane k f m (subst (λ i. ArrivesAfter i (attempts (past lane h) k)) (sym p) tt))
+landed_plan script h lane xs k (Proto times) f m p o =
+    elim (fork (nat_le times (attempts (past lane h) k)) _ _ xs o) [
+      | inl q ↦ subst (Fits script h (Works (Land lane))) q.1
+          (lands lane k f m (subst (λ i. ArrivesAfter i (attempts (past lane h) k)) (sym p) (leb-true times (attempts (past lane h) k) q.0)))
+      | inr q ↦ elim (fork (nat_lt (attempts (past lane h) k) 3) _ _ xs q.1) [
+        | inl t ↦ subst (Fits script h (Works (Land lane))) t.1
+            (tries_again lane k f m (subst (λ i. RetriesAfter i (attempts (past lane h) k)) (sym p) (leb-false times (attempts (past lane h) k) q.0, ltb-true (attempts (past lane h) k) 3 t.0)))
+        | inr t ↦ let u = stop (attempts (past lane h) k == 3) _ _ xs t.1 in subst (Fits script h (Works (Land lane))) (writes_same _ xs u.1)
+            (fails lane k FaultKind.Proto f m (subst (λ i. FailsAfter i (attempts (past lane h) k) FaultKind.Proto) (sym p) (leb-false times (attempts (past lane h) k) q.0, eqb-true (attempts (past lane h) k) 3 u.0, refl)))
+      ]
+    ]
+landed_plan script h lane xs k Halt f m p o =
+    subst (Fits script h (Works (Land lane))) (writes_same _ xs o) (fails lane k FaultKind.Halt f m (subst (λ i. FailsAfter i (attempts (past lane h) k) FaultKind.Halt) (sym p) refl))
 
 landed_mark : (script : Script) (h : History) (lane : Lane) (xs : History) (k : ℕ) (m : Option ℕ) → flies (past lane h) k ≡ true → mark (past lane h) k ≡ m
-    → land_marked lane (planned script lane k) k m ≡ Writes xs → Fits script h (Works (Land lane)) xs
+    → land_marked lane (planned script lane k) k (attempts (past lane h) k) m ≡ Writes xs → Fits script h (Works (Land lane)) xs
 landed_mark script h lane xs k (Some c) f m o = subst (Fits script h (Works (Land lane))) (writes_same _ xs o) (cuts_flight lane k c f m)
 landed_mark script h lane xs k None f m o = landed_plan script h lane xs k (planned script lane k) f m refl o
 

@@ -7,7 +7,7 @@ use Rattle.un_journal.specs.History.{Entry, History, past}
 use Rattle.un_journal.specs.Lookup.{span_after_took}
 use Rattle.un_journal.specs.LaneSteps.{Outcome, Writes, Answers, lines_in}
 use Rattle.un_journal.specs.Step.{Work, work}
-use Rattle.un_journal.specs.Fits.{Act, Works, Controls, Fits, takes, refuses, waits_once, closes, begins_flight, cuts_queued, lands, fails, cuts_flight, comes_home, opens, gives, posts_one, marks, recalls_one, clears, settles, orders, orders_forced, after_took}
+use Rattle.un_journal.specs.Fits.{Act, Works, Controls, Fits, takes, refuses, waits_once, closes, begins_flight, cuts_queued, lands, tries_again, fails, cuts_flight, comes_home, opens, gives, posts_one, marks, recalls_one, clears, settles, orders, orders_forced, after_took}
 use Rattle.un_journal.proofs.Lists.NewestFirst.{AllOf}
 use Rattle.un_journal.proofs.Steps.OrderLines.{AreStill, is_still_line, made_still, made_of}
 use Rattle.un_journal.proofs.Steps.OutcomesFit.{outcome_fits}
@@ -53,6 +53,7 @@ fits_own script h lines act lane (closes l b p n) q = moved l lane _ q (one_own 
 fits_own script h lines act lane (begins_flight l k a none e m ha p) q = moved l lane _ q (one_own l _ (λ i. refl, tt) refl)
 fits_own script h lines act lane (cuts_queued l k c none e m) q = moved l lane _ q (one_own l _ (λ i. refl, tt) refl)
 fits_own script h lines act lane (lands l k f m p) q = moved l lane _ q (one_own l _ (λ i. refl, tt) refl)
+fits_own script h lines act lane (tries_again l k f m p) q = moved l lane _ q (one_own l _ (λ i. refl, tt) refl)
 fits_own script h lines act lane (fails l k kind f m p) q = moved l lane _ q (one_own l _ (λ i. refl, tt) refl)
 fits_own script h lines act lane (cuts_flight l k c f m) q = moved l lane _ q (one_own l _ (λ i. refl, tt) refl)
 fits_own script h lines act lane (comes_home l e) q = moved l lane _ q (one_own l _ (λ i. refl, tt) refl)

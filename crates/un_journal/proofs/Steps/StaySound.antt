@@ -11,7 +11,7 @@ use Rattle.un_frame.specs.declared.kinds.Phase.TheVariants.{Up, Asleep, Stopping
 use Rattle.un_frame.specs.Lanes.{same_lane, packs, frames_fit}
 use Rattle.un_frame.specs.Cut.{ends_at_limit}
 use Rattle.un_journal.specs.declared.lines.Line.{Line}
-use Rattle.un_journal.specs.declared.lines.Line.TheVariants.{Took, Made, Flying, Landed, Failed, Marked, Cut, Dropped, Recalled, Settled}
+use Rattle.un_journal.specs.declared.lines.Line.TheVariants.{Took, Made, Flying, Landed, Failed, Retried, Marked, Cut, Dropped, Recalled, Settled}
 use Rattle.un_journal.specs.declared.controls.Control.{Control as Order}
 use Rattle.un_journal.specs.declared.controls.Due.{Due}
 use Rattle.un_journal.specs.Script.{Script}
@@ -20,7 +20,7 @@ use Rattle.un_journal.specs.Lookup.{phase_of, phase_after, after_order, controls
 use Rattle.un_journal.specs.LaneSteps.{bare}
 use Rattle.un_journal.specs.Step.{made_entry, made_if, cut_each, marked_each, recalled_each, dropped_built, order_lines, hinders}
 use Rattle.un_journal.specs.Sound.{IsSound, Follows, IsNext, IsNextSpan}
-use Rattle.un_journal.specs.Fits.{Act, Fits, takes, refuses, waits_once, closes, begins_flight, cuts_queued, lands, fails, cuts_flight, comes_home, opens, gives, posts_one, marks, recalls_one, clears, settles, orders, orders_forced, after_took, Legal, begins, goes_on}
+use Rattle.un_journal.specs.Fits.{Act, Fits, takes, refuses, waits_once, closes, begins_flight, cuts_queued, lands, tries_again, fails, cuts_flight, comes_home, opens, gives, posts_one, marks, recalls_one, clears, settles, orders, orders_forced, after_took, Legal, begins, goes_on}
 use Rattle.un_journal.proofs.Lanes.GivenOrder.{cover_below}
 use Rattle.un_journal.proofs.Lists.NewestFirst.{past_more}
 use Rattle.un_journal.proofs.Lists.Passing.{those_rest, those_first}
@@ -61,6 +61,7 @@ plain_grounded : (e : Entry) (g : History) → is_plain e ≡ true → (j : ℕ)
 plain_grounded (Flying l k, bytes) g p j w = absurd (false≢true p)
 plain_grounded (Landed l k, bytes) g p j w = and_right (not (k == j)) (flies g j) w
 plain_grounded (Failed l k kind, bytes) g p j w = and_right (not (k == j)) (flies g j) w
+plain_grounded (Retried l k n, bytes) g p j w = and_right (not (k == j)) (flies g j) w
 plain_grounded (Cut l k c, bytes) g p j w = and_right (not (k == j)) (flies g j) w
 plain_grounded (e, bytes) g p j w = w
 
@@ -475,6 +476,7 @@ step_good script h lines act good (closes lane b p n) = one_line script h _ lane
 step_good script h lines act good (begins_flight lane k a none e m ha p) = begin_good script h lane k good a (queued_next script h lane k good none e)
 step_good script h lines act good (cuts_queued lane k c none e m) = one_line script h _ lane good refl (λ l. refl) (inr (queued_next script h lane k good none e))
 step_good script h lines act good (lands lane k f m p) = one_line script h _ lane good refl (λ l. refl) f
+step_good script h lines act good (tries_again lane k f m p) = one_line script h _ lane good refl (λ l. refl) f
 step_good script h lines act good (fails lane k kind f m p) = one_line script h _ lane good refl (λ l. refl) f
 step_good script h lines act good (cuts_flight lane k c f m) = one_line script h _ lane good refl (λ l. refl) (inl f)
 step_good script h lines act good (comes_home lane e) = one_line script h _ lane good refl (λ l. refl) (refl, e)

@@ -9,7 +9,7 @@ use Rattle.un_journal.specs.History.{Entry}
 use Rattle.un_frame.specs.Spelling.{lane_named}
 use Rattle.un_facts.proofs.Lists.{same_bytes}
 use Rattle.un_journal.specs.declared.lines.Line.{Line}
-use Rattle.un_journal.specs.declared.lines.Line.TheVariants.{Took, Refused, Made, Waited, Posted, Flying, Landed, Failed, Marked, Cut, Dropped, TxHome, Opened, Gave, Recalled, Cleared, Control, Settled}
+use Rattle.un_journal.specs.declared.lines.Line.TheVariants.{Took, Refused, Made, Waited, Posted, Flying, Landed, Failed, Retried, Marked, Cut, Dropped, TxHome, Opened, Gave, Recalled, Cleared, Control, Settled}
 use Rattle.un_journal.specs.Lines.{Field, Row, lane, short, long, reason, fault, flag, row, spelled, IsOfItsType}
 use Rattle.un_journal.specs.Log.{FitsTypes, HasReason, CarriesItsBytes}
 use Rattle.un_journal.specs.Text.{name_of, words_of}
@@ -150,9 +150,10 @@ three_sound : (name : List ℕ) (words : List (List ℕ)) (found : Parsed) → t
 three_sound name words found h =
     named name (codes "refused") words found _ _ (three_says lanes shorts reasons Refused (codes "refused") words found (λ x y z. refl) (λ x y z w e. (why_sound w z e).1))
     (named name (codes "failed") words found _ _ (three_says lanes longs faults Failed (codes "failed") words found (λ x y z. refl) (λ x y z w e. tt))
+    (named name (codes "retried") words found _ _ (three_says lanes longs shorts Retried (codes "retried") words found (λ x y z. refl) (λ x y z w e. tt))
     (named name (codes "marked") words found _ _ (three_says lanes longs shorts Marked (codes "marked") words found (λ x y z. refl) (λ x y z w e. tt))
     (named name (codes "cut") words found _ None (three_says lanes longs shorts Cut (codes "cut") words found (λ x y z. refl) (λ x y z w e. tt))
-    (never (Says name words found) found)))) h
+    (never (Says name words found) found))))) h
 
 four_sound : (name : List ℕ) (words : List (List ℕ)) (found : Parsed) → four_named name words ≡ Some found → Says name words found
 four_sound name words found h =
@@ -230,6 +231,7 @@ line_back (Posted l) ds fits refuses carried = rw (nil_from_length ds carried, l
 line_back (Flying l k) ds fits refuses carried = rw (nil_from_length ds carried, lane_back l, long_back k fits.1.0) refl
 line_back (Landed l k) ds fits refuses carried = rw (nil_from_length ds carried, lane_back l, long_back k fits.1.0) refl
 line_back (Failed l k kind) ds fits refuses carried = rw (nil_from_length ds carried, lane_back l, long_back k fits.1.0, kind_back kind) refl
+line_back (Retried l k n) ds fits refuses carried = rw (nil_from_length ds carried, lane_back l, long_back k fits.1.0, short_back n fits.1.1.0) refl
 line_back (Marked l k c) ds fits refuses carried = rw (nil_from_length ds carried, lane_back l, long_back k fits.1.0, short_back c fits.1.1.0) refl
 line_back (Cut l k c) ds fits refuses carried = rw (nil_from_length ds carried, lane_back l, long_back k fits.1.0, short_back c fits.1.1.0) refl
 line_back (Dropped l a b c) ds fits refuses carried = rw (nil_from_length ds carried, lane_back l, long_back a fits.1.0, long_back b fits.1.1.0, short_back c fits.1.1.1.0) refl

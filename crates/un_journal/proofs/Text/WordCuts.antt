@@ -8,7 +8,7 @@ use Rattle.un_frame.specs.declared.params.Lane.TheVariants.{Outward, Inward}
 use Rattle.un_frame.specs.declared.kinds.FaultKind.TheVariants.{Proto, Halt}
 use Rattle.un_frame.specs.declared.kinds.Verdict.TheVariants.{Take, Short, Long, Filtered}
 use Rattle.un_journal.specs.declared.lines.Line.{Line}
-use Rattle.un_journal.specs.declared.lines.Line.TheVariants.{Took, Refused, Made, Waited, Posted, Flying, Landed, Failed, Marked, Cut, Dropped, TxHome, Opened, Gave, Recalled, Cleared, Control, Settled}
+use Rattle.un_journal.specs.declared.lines.Line.TheVariants.{Took, Refused, Made, Waited, Posted, Flying, Landed, Failed, Retried, Marked, Cut, Dropped, TxHome, Opened, Gave, Recalled, Cleared, Control, Settled}
 use Rattle.un_journal.specs.History.{Entry}
 use Rattle.un_journal.specs.Lines.{Field, lane, short, long, reason, fault, flag, row, spelled, IsOfItsType}
 use Rattle.un_journal.specs.Log.{IsEntry}
@@ -41,6 +41,7 @@ name_plain (Posted l) = refl
 name_plain (Flying l k) = refl
 name_plain (Landed l k) = refl
 name_plain (Failed l k kind) = refl
+name_plain (Retried l k n) = refl
 name_plain (Marked l k c) = refl
 name_plain (Cut l k c) = refl
 name_plain (Dropped l a b c) = refl
