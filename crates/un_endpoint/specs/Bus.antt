@@ -27,7 +27,8 @@ abbrev pub received : Trip → Buffer
 received trip = record trip.tx { number = trip.rx; capacity = trip.rx_capacity }
 
 -- An endpoint: the lengths that its lists may have and the longest transfer, the queued requests and the causes that mark
--- the first of them, the posted requests, the flight that is out with the cause that marks it, and whether it is halted.
+-- the first of them, the posted requests, the flight that is out with the cause that marks it, how many attempts have failed of the
+-- transfer that is out, or else of the first queued one, and whether it is halted.
 pub record Bus : Type 0 where
   pub tx_room : ℕ
   pub rx_room : ℕ
@@ -37,6 +38,7 @@ pub record Bus : Type 0 where
   pub posted : List Buffer
   pub flight : Option FlightRecord
   pub flight_mark : Option ℕ
+  pub attempts : ℕ
   pub halted : Bool
 
 abbrev pub no_bus : ℕ → ℕ → ℕ → Bus
@@ -49,6 +51,7 @@ no_bus tx_room rx_room largest = record {
   posted = [];
   flight = None;
   flight_mark = None;
+  attempts = 0;
   halted = false;
 }
 

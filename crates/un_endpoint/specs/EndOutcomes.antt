@@ -92,9 +92,9 @@ is_busy t frame number = frame_needs_home t.lane t.builder.claim (closing t fram
 abbrev pub IsNext : Transmitter → ℕ → Type 0
 IsNext t number = 0 < length t.builder.frames → number ≡ t.builder.from + length t.builder.frames
 
--- the answer is that for each frame of this length and each number that may come next
+-- the answer is that for each frame of this length, a segment at most, and each number that may come next
 abbrev pub CanOffer : Transmitter → ℕ → Bool → Type 0
-CanOffer t size answer = (frame : List ℕ) (number : ℕ) → length frame ≡ size → IsNext t number → answer ≡ not (is_busy t frame number)
+CanOffer t size answer = (frame : List ℕ) (number : ℕ) → length frame ≡ size → size ≤ t.params.segment → IsNext t number → answer ≡ not (is_busy t frame number)
 
 -- whether a tick would wait or close something
 abbrev pub can_tick : Transmitter → Bool

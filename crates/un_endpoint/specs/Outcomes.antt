@@ -1,7 +1,9 @@
 -- What the calls of an endpoint do, by what they answer. The cases of one call leave nothing out and exclude each other.
-use Rattle.std.specs.Prelude.{◌≡◌, ℕ, ◌<◌, Bool, true, false, ◌||◌, ◌&&◌, not, is_some, [], ◌∷◌, ◌++◌, length, Option, Some, None, slice_get, ◌⊎◌}
+use Rattle.std.specs.Prelude.{◌≡◌, ℕ, ◌+◌, ◌<◌, Bool, true, false, ◌||◌, ◌&&◌, not, is_some, [], ◌∷◌, ◌++◌, length, Option, Some, None, slice_get, ◌⊎◌}
 use Rattle.un_frame.specs.declared.kinds.FaultKind.{FaultKind}
 use Rattle.un_frame.specs.declared.kinds.FaultKind.TheVariants.{Proto, Halt}
+use Rattle.un_frame.specs.declared.kinds.Planned.{Planned}
+use Rattle.un_frame.specs.Attempts.{ArrivesAfter, RetriesAfter, FailsAfter}
 use Rattle.un_req.specs.Request.{Buffer}
 use Rattle.un_endpoint.specs.Bus.{Bus, Trip, record_of, received}
 use Rattle.un_endpoint.specs.declared.record.FlightRecord.{FlightRecord}
@@ -28,12 +30,12 @@ pub record Departs (old new : Bus) (trip : Trip) : Type 0 where
   pub capacity : trip.rx_capacity ≡ posted.capacity
   pub rest : new ≡ record old { queue = new.queue; posted = new.posted; flight = Some (record_of trip); flight_mark = None }
 
--- the first queued request was marked, and is given up
+-- the first queued request was marked, and is given up with its attempts
 pub record Reaps (old new : Bus) (request : Buffer) (cause : ℕ) : Type 0 where
   pub alone : old.flight ≡ None
   pub left : old.queue ≡ request ∷ new.queue
   pub marked : old.marks ≡ cause ∷ new.marks
-  pub rest : new ≡ record old { queue = new.queue; marks = new.marks }
+  pub rest : new ≡ record old { queue = new.queue; marks = new.marks; attempts = 0 }
 
 pub record StaysAsleep (asleep : Bool) (old new : Bus) : Type 0 where
   pub head : HasHead old
@@ -80,30 +82,39 @@ halts Proto = false
 halts Halt = true
 
 -- what `land` did
-pub record Arrives (old new : Bus) (trip : Trip) (fault : Option FaultKind) (tx rx : Buffer) : Type 0 where
+pub record Arrives (old new : Bus) (trip : Trip) (plan : Planned) (tx rx : Buffer) : Type 0 where
   pub unmarked : old.flight_mark ≡ None
-  pub sound : fault ≡ None
+  pub planned : ArrivesAfter plan old.attempts
   pub sent : tx ≡ trip.tx
   pub got : rx ≡ received trip
-  pub rest : new ≡ record old { flight = None; flight_mark = None }
+  pub rest : new ≡ record old { flight = None; flight_mark = None; attempts = 0 }
 
-pub record Fails (old new : Bus) (trip : Trip) (fault : Option FaultKind) (tx rx : Buffer) (kind : FaultKind) : Type 0 where
+pub record Retries (old new : Bus) (trip : Trip) (plan : Planned) (rx : Buffer) (attempt : ℕ) : Type 0 where
   pub unmarked : old.flight_mark ≡ None
-  pub planned : fault ≡ Some kind
+  pub none_marked : length old.marks ≡ 0
+  pub planned : RetriesAfter plan old.attempts
+  pub attempt_is : attempt ≡ old.attempts + 1
+  pub got : rx ≡ received trip
+  pub rest : new ≡ record old { queue = trip.tx ∷ old.queue; flight = None; flight_mark = None; attempts = old.attempts + 1 }
+
+pub record Fails (old new : Bus) (trip : Trip) (plan : Planned) (tx rx : Buffer) (kind : FaultKind) : Type 0 where
+  pub unmarked : old.flight_mark ≡ None
+  pub planned : FailsAfter plan old.attempts kind
   pub sent : tx ≡ trip.tx
   pub got : rx ≡ received trip
-  pub rest : new ≡ record old { flight = None; flight_mark = None; halted = halts kind || old.halted }
+  pub rest : new ≡ record old { flight = None; flight_mark = None; attempts = 0; halted = halts kind || old.halted }
 
 pub record IsSevered (old new : Bus) (trip : Trip) (tx rx : Buffer) (cause : ℕ) : Type 0 where
   pub marked : old.flight_mark ≡ Some cause
   pub sent : tx ≡ trip.tx
   pub got : rx ≡ received trip
-  pub rest : new ≡ record old { flight = None; flight_mark = None }
+  pub rest : new ≡ record old { flight = None; flight_mark = None; attempts = 0 }
 
-abbrev pub Lands : Bus → Bus → Trip → Option FaultKind → Landed → Type 0
-Lands old new trip fault (landed.Arrived tx rx) = Arrives old new trip fault tx rx
-Lands old new trip fault (landed.Failed tx rx kind) = Fails old new trip fault tx rx kind
-Lands old new trip fault (landed.Cut tx rx cause) = IsSevered old new trip tx rx cause
+abbrev pub Lands : Bus → Bus → Trip → Planned → Landed → Type 0
+Lands old new trip plan (landed.Arrived tx rx) = Arrives old new trip plan tx rx
+Lands old new trip plan (landed.Retried rx attempt) = Retries old new trip plan rx attempt
+Lands old new trip plan (landed.Failed tx rx kind) = Fails old new trip plan tx rx kind
+Lands old new trip plan (landed.Cut tx rx cause) = IsSevered old new trip tx rx cause
 
 -- whether a flight is out that isn't marked
 abbrev pub has_unmarked_flight : Bus → Bool

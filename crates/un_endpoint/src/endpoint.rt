@@ -12,11 +12,14 @@ use circular_buffer::HeapCircularBuffer;
 use std::alloc::{AllocError, Global};
 use std::marker::Model;
 use un_facts::{count, spans};
-use un_frame::FaultKind;
+use un_frame::{FaultKind, Planned};
 use un_req::Request;
 
+/// How often a transfer is tried again at most.
+const MOST_ATTEMPTS: u32 = 3;
+
 /// The bus of one lane: the queued transfers and the posted receive requests, each in a ring that is reserved when it is made, the marks of the first queued ones, and what is
-/// remembered of the flight that is out. It has each request that it was given in exactly one place until it gives it out. No call after `make` takes memory.
+/// remembered of the flight that is out. Transfers go in their order, so only the one that is out, or else the first queued one, can have failed attempts: one count keeps them. It has each request that it was given in exactly one place until it gives it out. No call after `make` takes memory.
 #[derive(Drop)]
 pub struct Endpoint {
     queue: HeapCircularBuffer<Request>,
@@ -24,6 +27,7 @@ pub struct Endpoint {
     posted: HeapCircularBuffer<Request>,
     flight: Option<FlightRecord>,
     mark: Option<u32>,
+    attempts: u32,
     halted: bool,
     largest: u32,
 }
@@ -54,6 +58,7 @@ impl Endpoint {
             posted,
             flight: None,
             mark: None,
+            attempts: 0,
             halted: false,
             largest,
         })
@@ -105,6 +110,7 @@ impl Endpoint {
             return Some(Taken::Empty);
         }
         if let Some(cause) = self.marks.pop_front() {
+            self.attempts = 0;
             return match self.queue.pop_front() {
                 Some(request) => Some(Taken::Reaped { request, cause }),
                 None => unreachable!(),
@@ -130,26 +136,47 @@ impl Endpoint {
         Some(Taken::Flight(flight))
     }
 
-    /// Ends the flight that is out: cut where it was marked, else failed where `fault` is planned (a `Halt` also halts the endpoint), else arrived. Both requests are given back.
-    pub fn land(&mut self, carried: Carried, fault: Option<FaultKind>) -> Landed
-        requires { self.old.flight ≡ Some (record_of carried) }
-        ensures { Lands self.old self.new carried fault result }
+    /// Ends the flight that is out. Where it was marked it is cut. Else where `Proto` is planned and fewer of its attempts have failed, it is queued before all others to be tried again, or it has failed where
+    /// three have. Else where `Halt` is planned it has failed, and the endpoint is halted. Else it has arrived. Both requests are given back, but for the transmit request that is queued again.
+    pub fn land(&mut self, carried: Carried, planned: Planned) -> Landed
+        requires out { self.old.flight ≡ Some (record_of carried) }
+        requires room { length self.old.queue < self.old.tx_room }
+        requires short { length carried.tx.bytes ≤ self.old.largest }
+        ensures { Lands self.old self.new carried planned result }
     {
         let mark = self.mark;
+        let attempts = self.attempts;
         self.flight = None;
         self.mark = None;
+        self.attempts = 0;
         let (tx, rx) = carried.parts();
         if let Some(cause) = mark {
             return Landed::Cut { tx, rx, cause };
         }
-        match fault {
-            Some(kind) => {
-                if kind == FaultKind::Halt {
-                    self.halted = true;
+        match planned {
+            Planned::Proto { times } => {
+                if attempts >= times {
+                    return Landed::Arrived { tx, rx };
                 }
+                if attempts >= MOST_ATTEMPTS {
+                    let kind = FaultKind::Proto;
+                    return Landed::Failed { tx, rx, kind };
+                }
+                self.attempts = attempts + 1;
+                match self.queue.try_push_front(tx) {
+                    Ok(()) => Landed::Retried {
+                        rx,
+                        attempt: attempts + 1,
+                    },
+                    Err(_) => unreachable!(),
+                }
+            }
+            Planned::Halt => {
+                self.halted = true;
+                let kind = FaultKind::Halt;
                 Landed::Failed { tx, rx, kind }
             }
-            None => Landed::Arrived { tx, rx },
+            Planned::Clean => Landed::Arrived { tx, rx },
         }
     }
 

@@ -30,7 +30,7 @@ pub trait TxEnd {
     fn home(&self) -> u32
         ensures { result ≡ length (transmitter self.now).home };
 
-    /// Whether an offer of a frame of `length` bytes would not answer `Busy`.
+    /// Whether an offer of a frame of `length` bytes, a segment at most, would not answer `Busy`.
     fn can_offer(&self, length: u32) -> bool
         ensures { CanOffer (transmitter self.now) length result };
 

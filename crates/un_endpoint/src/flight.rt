@@ -93,6 +93,13 @@ impl Carried {
         self.tx.serial()
     }
 
+    /// What each transfer is: no longer than its request's capacity.
+    pub fn prove_fits(&self)
+        ensures { length self.now.tx.bytes ≤ self.now.tx.capacity }
+    {
+        let _bytes = self.tx.bytes();
+    }
+
     /// Its two requests.
     pub(crate) fn parts(self) -> (Request, Request)
         ensures tx { result.0 ≡ self.tx }

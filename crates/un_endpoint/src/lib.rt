@@ -7,8 +7,9 @@
 //! endpoint.post(empty)?;                          // a request that the receiving end has lent
 //! if let Some(Taken::Flight(flight)) = endpoint.take(false) {
 //!     let carried = flight.carry(512);            // nobody needs the endpoint for this
-//!     match endpoint.land(carried, None) {        // None: no fault is planned for it
+//!     match endpoint.land(carried, planned) {     // what a script plans for it
 //!         Landed::Arrived { tx, rx } => ..        // tx is done, rx has the bytes
+//!         Landed::Retried { rx, attempt } => ..   // tx is first in the queue again
 //!         Landed::Failed { tx, rx, kind } => ..   // the fault that was planned
 //!         Landed::Cut { tx, rx, cause } => ..     // a control has marked it
 //!     }
@@ -24,8 +25,6 @@ mod flight;
 mod outcome;
 mod record;
 mod requests;
-#[cfg(test)]
-mod tests;
 
 pub use endpoint::Endpoint;
 pub use ends::{RxEnd, TxEnd};

@@ -29,7 +29,7 @@ pub enum Taken {
     NoBuffer,
 }
 
-/// How a flight ended, with its two requests. Only of `Arrived` the receive request's bytes matter.
+/// How a flight ended, with its two requests, of which the transmit request of `Retried` is queued again. Only of `Arrived` the receive request's bytes matter.
 #[derive(Drop)]
 pub enum Landed {
     /// The transfer arrived.
@@ -37,7 +37,12 @@ pub enum Landed {
         tx: Request,
         rx: Request,
     },
-    /// It failed on the bus, as a script plans.
+    /// Its attempt `attempt`, from 1, failed on the bus, as a script plans; its transfer is queued before all others.
+    Retried {
+        rx: Request,
+        attempt: u32,
+    },
+    /// It failed on the bus, as a script plans, and isn't tried again.
     Failed {
         tx: Request,
         rx: Request,

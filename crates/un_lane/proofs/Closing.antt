@@ -34,10 +34,10 @@ closed_as true false true a n s one e = subst (IsClosed a n true) (same_Some (a,
 closed_as true false false a n s one e = absurd (cc)
 
 pub but : (way : Way) (g : History) → Stands way g → StandsBut way.lane way.tx way.rx way.bus g
-but way g w = record { sound = w.sound; placed = w.placed; queues = w.queues; ends = w.ends; counts = w.counts; texts = w.texts }
+but way g w = record { sound = w.sound; placed = w.placed; queues = w.queues; tries = w.tries; ends = w.ends; counts = w.counts; texts = w.texts }
 
 pub but_took : (way : Way) (g : History) (sender : ℕ) → Stands way g → StandsBut way.lane way.tx way.rx way.bus ((Took way.lane sender, []) ∷ g)
-but_took way g sender w = record { sound = (tt, w.sound); placed = w.placed; queues = w.queues; ends = w.ends; counts = w.counts; texts = w.texts }
+but_took way g sender w = record { sound = (tt, w.sound); placed = w.placed; queues = w.queues; tries = w.tries; ends = w.ends; counts = w.counts; texts = w.texts }
 
 -- the span of a made transfer
 pub closed_is : (way : Way) (g : History) (t : Transmitter) (frame : List ℕ) (serial : ℕ) (x : Buffer) → Stands way g → (m : Makes way.tx t frame way.accepted serial x) → IsClosed (cover g) (taken g) (packs way.tx.params.class way.lane) m.span
@@ -109,14 +109,14 @@ makes_queued : (way : Way) (g : History) (t : Transmitter) (sender : ℕ) (frame
     → Stands (record way { accepted = way.accepted + 1; made = way.made + 1; tx = record way.tx { home = t.home; builder = t.builder }; bus = record way.bus { queue = way.bus.queue ++ x ∷ [] } }) ((Made way.lane (made g) x.from x.to, x.bytes) ∷ (Took way.lane sender, []) ∷ g)
 makes_queued way g t sender frame x w m none =
     let b = queue_stands way.lane way.tx way.rx way.bus t.home t.builder ((Took way.lane sender, []) ∷ g) x (but_took way g sender w) (makes_new way g t sender frame x w m) none in
-    record { sound = b.sound; placed = b.placed; building = makes_built way g t sender frame x _ w m; queues = b.queues; ends = b.ends; counts = b.counts; texts = b.texts }
+    record { sound = b.sound; placed = b.placed; building = makes_built way g t sender frame x _ w m; queues = b.queues; tries = b.tries; ends = b.ends; counts = b.counts; texts = b.texts }
 
 -- into the deferred list
 makes_deferred : (way : Way) (g : History) (t : Transmitter) (sender : ℕ) (frame : List ℕ) (x : Buffer) → Stands way g → Makes way.tx t frame way.accepted way.made x → way.bus.queue ≡ [] → way.bus.flight ≡ None → way.lane ≡ Outward
     → Stands (record way { accepted = way.accepted + 1; made = way.made + 1; tx = record way.tx { home = t.home; builder = t.builder; deferred = way.tx.deferred ++ x ∷ [] } }) ((Made way.lane (made g) x.from x.to, x.bytes) ∷ (Took way.lane sender, []) ∷ g)
 makes_deferred way g t sender frame x w m none no_flight out =
     let b = defer_stands way.lane way.tx way.rx way.bus t.home t.builder ((Took way.lane sender, []) ∷ g) x (but_took way g sender w) (makes_new way g t sender frame x w m) none no_flight out in
-    record { sound = b.sound; placed = b.placed; building = makes_built way g t sender frame x _ w m; queues = b.queues; ends = b.ends; counts = b.counts; texts = b.texts }
+    record { sound = b.sound; placed = b.placed; building = makes_built way g t sender frame x _ w m; queues = b.queues; tries = b.tries; ends = b.ends; counts = b.counts; texts = b.texts }
 
 abbrev made_way : Way → Transmitter → Bus → Way
 made_way way t bus = record way { accepted = way.accepted + 1; made = way.made + 1; tx = t; bus = bus }
@@ -200,13 +200,13 @@ closes_sent way g t t' bus' x true w m dd qq sent =
     let b = defer_stands way.lane way.tx way.rx way.bus t.home t.builder g x (but way g w) (closes_new way g t x w m) y.0 y.1 y.2 in
     let same : t' ≡ record way.tx { home = t.home; builder = t.builder; deferred = way.tx.deferred ++ x ∷ [] } = sent.0 ∙ ap (λ (u : Transmitter). record u { deferred = u.deferred ++ x ∷ [] }) m.rest in
     let stands : Stands (ticked_way way (record way.tx { home = t.home; builder = t.builder; deferred = way.tx.deferred ++ x ∷ [] }) way.bus) ((Made way.lane (made g) x.from x.to, x.bytes) ∷ g) =
-    record { sound = b.sound; placed = b.placed; building = closes_built way g t x _ w m; queues = b.queues; ends = b.ends; counts = b.counts; texts = b.texts } in
+    record { sound = b.sound; placed = b.placed; building = closes_built way g t x _ w m; queues = b.queues; tries = b.tries; ends = b.ends; counts = b.counts; texts = b.texts } in
     subst (λ u. Stands (ticked_way way u bus') ((Made way.lane (made g) x.from x.to, x.bytes) ∷ g)) (sym same)
     (subst (λ c. Stands (ticked_way way (record way.tx { home = t.home; builder = t.builder; deferred = way.tx.deferred ++ x ∷ [] }) c) ((Made way.lane (made g) x.from x.to, x.bytes) ∷ g)) (sym sent.1) stands)
 closes_sent way g t t' bus' x false w m dd qq sent =
     let b = queue_stands way.lane way.tx way.rx way.bus t.home t.builder g x (but way g w) (closes_new way g t x w m) (qq refl) in
     let stands : Stands (ticked_way way (record way.tx { home = t.home; builder = t.builder }) (record way.bus { queue = way.bus.queue ++ x ∷ [] })) ((Made way.lane (made g) x.from x.to, x.bytes) ∷ g) =
-    record { sound = b.sound; placed = b.placed; building = closes_built way g t x _ w m; queues = b.queues; ends = b.ends; counts = b.counts; texts = b.texts } in
+    record { sound = b.sound; placed = b.placed; building = closes_built way g t x _ w m; queues = b.queues; tries = b.tries; ends = b.ends; counts = b.counts; texts = b.texts } in
     subst (λ u. Stands (ticked_way way u bus') ((Made way.lane (made g) x.from x.to, x.bytes) ∷ g)) (sym (sent.0 ∙ m.rest))
     (subst (λ c. Stands (ticked_way way (record way.tx { home = t.home; builder = t.builder }) c) ((Made way.lane (made g) x.from x.to, x.bytes) ∷ g)) (sym sent.1) stands)
 
@@ -232,6 +232,7 @@ waits_stands way g t w m =
       placed = assumption w.placed;
       building = assumption (w.building, pend_less way.lane _ _ way.tx.builder.pending w.building.pends m.pends);
       queues = w.queues;
+      tries = assumption w.tries;
       ends = w.ends;
       counts = w.counts;
       texts = w.texts;

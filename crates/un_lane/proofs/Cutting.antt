@@ -12,7 +12,7 @@ use Rattle.un_endpoint.specs.Bus.{Bus}
 use Rattle.un_endpoint.specs.Ends.{Transmitter, Receiver, IsAwayTx}
 use Rattle.un_endpoint.specs.EndOutcomes.{IsNextDeferred}
 use Rattle.un_journal.specs.declared.lines.Line.TheVariants.{Cut}
-use Rattle.un_journal.specs.History.{History, made, waiting, flying, ended, landed, failed, was_cut, mark, halted, posts, recalls, flights, first, span, made_bytes, ends}
+use Rattle.un_journal.specs.History.{History, attempts, made, waiting, flying, ended, landed, failed, was_cut, mark, halted, posts, recalls, flights, first, span, made_bytes, ends}
 use Rattle.un_journal.specs.Sound.{IsNext}
 use Rattle.un_journal.proofs.ForLane.{next_from, in_order, next_is}
 use Rattle.un_lane.specs.Way.{Way}
@@ -86,11 +86,13 @@ cut_stands way g t x c w d =
     let next = next_deferred_is way g x t.deferred w d.left in
     let last : x.serial ≡ ends g = next_is g w.sound (in_order g w.sound) x.serial next in
     let texts = subst (AllByRecursion (IsText (span g) (made_bytes g))) d.left w.texts.deferred_texts in
+    let untried = subst (AllByRecursion (λ r. attempts g r.serial ≡ 0)) d.left w.tries.deferred_untried in
     let stands : Stands (record way { tx = record way.tx { deferred = t.deferred; done = way.tx.done ++ x ∷ [] } }) ((Cut way.lane x.serial c, []) ∷ g) = record {
       sound = (inr next, w.sound);
       placed = cut_placed way.lane way.tx way.rx way.bus x t.deferred w.placed d.left;
       building = w.building;
       queues = cut_queues way g x t.deferred c w d.left next;
+      tries = record { tried = w.tries.tried; deferred_untried = untried.1; unmade_untried = w.tries.unmade_untried };
       ends = record {
         done_is = finish_plus g w.sound x.serial last next.is_made (ended ((Cut way.lane x.serial c, []) ∷ g))
             (rw (same_number x.serial) (or_true (landed g x.serial || failed g x.serial))) (λ j ne. rw (apart x.serial j ne) refl)

@@ -63,6 +63,7 @@ drop_stands way g t from to' c w d =
         remainder = λ o n. omega arith;
       };
       queues = w.queues;
+      tries = assumption w.tries;
       ends = w.ends;
       counts = record {
         tx = let h : length (way.tx.home ++ option_to_list way.tx.builder.claim) ≡ length way.tx.home + length (option_to_list way.tx.builder.claim) = length-append way.tx.home (option_to_list way.tx.builder.claim) in

@@ -131,6 +131,7 @@ module _ (way : Way) (g : History) (o : Current) (bytes : List ℕ) (w : Stands 
         placed = step_placed way.lane way.tx way.rx way.bus o w.placed e;
         building = w.building;
         queues = w.queues;
+        tries = assumption w.tries;
         ends = record {
           done_is = w.ends.done_is;
           arrived_is = w.ends.arrived_is;
@@ -161,6 +162,7 @@ module _ (way : Way) (g : History) (o : Current) (bytes : List ℕ) (w : Stands 
         placed = finish_placed way.lane way.tx way.rx way.bus o w.placed e;
         building = w.building;
         queues = w.queues;
+        tries = assumption w.tries;
         ends = record {
           done_is = w.ends.done_is;
           arrived_is = w.ends.arrived_is;
@@ -218,6 +220,7 @@ post_stands way g r bus' x w l b =
       placed = post_placed way.lane way.tx way.rx way.bus x r.home w.placed l.left l.known (ap (λ y. y.capacity) l.empty);
       building = w.building;
       queues = assumption (w.queues, posted);
+      tries = assumption w.tries;
       ends = w.ends;
       counts = record {
         tx = w.counts.tx;

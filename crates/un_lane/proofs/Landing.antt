@@ -8,22 +8,24 @@ use Rattle.un_facts.proofs.Booleans.{and_false}
 use Rattle.un_facts.specs.Lists.{copies, is_empty}
 use Rattle.un_facts.specs.Numbers.{one_if}
 use Rattle.un_frame.specs.declared.params.Lane.{Lane}
+use Rattle.un_frame.specs.declared.kinds.Planned.{Planned}
 use Rattle.un_frame.specs.declared.kinds.FaultKind.{FaultKind}
 use Rattle.un_frame.specs.declared.kinds.FaultKind.TheVariants.{Proto, Halt}
 use Rattle.un_req.specs.Request.{Buffer, number_of}
 use Rattle.un_endpoint.specs.declared.record.FlightRecord.{FlightRecord}
 use Rattle.un_endpoint.specs.Bus.{Bus, Trip, record_of, received}
-use Rattle.un_endpoint.specs.Outcomes.{Arrives, Fails, IsSevered, halts}
+use Rattle.un_endpoint.specs.Outcomes.{Arrives, Fails, Retries, IsSevered, halts}
 use Rattle.un_endpoint.specs.Ends.{Transmitter, Receiver}
-use Rattle.un_journal.specs.declared.lines.Line.TheVariants.{Landed, Failed, Cut}
-use Rattle.un_journal.specs.History.{History, made, those, flies, waits, waiting, flying, ended, landed, failed, was_cut, opened, arrived, delivered, gave, serial_of as owner_of, mark, halted, posts, recalls, flights, first, span, made_bytes, left_of, row_from, ends}
+use Rattle.un_journal.specs.declared.lines.Line.TheVariants.{Landed, Failed, Retried, Cut}
+use Rattle.un_journal.specs.History.{History, made, those, flies, waits, waiting, flying, ended, landed, failed, was_cut, opened, arrived, delivered, gave, serial_of as owner_of, mark, attempts, halted, posts, recalls, flights, first, span, made_bytes, left_of, row_from, ends}
 use Rattle.un_journal.specs.Sound.{IsSound}
 use Rattle.un_journal.proofs.ForLane.{those_first, quiet_grounded, fresh, owns_span, left_is, given_from, NoneEnded, aloft_only, status, status_of, in_turn, top_below, top, landed_below, in_order, flight_is}
 use Rattle.un_lane.specs.Way.{Way}
-use Rattle.un_lane.specs.Stands.{Stands, ArePlaced, AreQueued, IsText, FlightIs, finished, serial_of, flight_serial, flight_tx, flight_rx}
+use Rattle.un_lane.specs.Stands.{Stands, ArePlaced, AreQueued, AreAttempts, AreTried, AreMarked, IsTx, IsFlightOf, IsText, FlightIs, finished, serial_of, flight_serial, flight_tx, flight_rx}
 use Rattle.un_lane.proofs.Counting.{copies_more, map_last}
 use Rattle.un_lane.proofs.Finishing.{finish_plus}
 use Rattle.un_lane.proofs.Placing.{tx_moved, rx_moved}
+use Rattle.un_lane.proofs.Trying.{tried_rest}
 use Rattle.un_lane.proofs.Serials.{those_same, those_plus, those_nothing, apart, same_number}
 
 -- PLACES: the transmit request is done; the receive request has arrived, or is home
@@ -31,16 +33,16 @@ use Rattle.un_lane.proofs.Serials.{those_same, those_plus, those_nothing, apart,
 land_placed : (lane : Lane) (t : Transmitter) (r : Receiver) (bus : Bus) (trip : Trip) (home' : List ℕ) (arrived' : List Buffer) (h : Bool) → ArePlaced lane t r bus → bus.flight ≡ Some (record_of trip)
     → ((n : ℕ) → copies n home' + copies n (map number_of arrived') ≡ copies n r.home + copies n (map number_of r.arrived) + one_if (eqb n trip.rx))
     → length home' + length arrived' ≡ length r.home + length r.arrived + 1
-    → ArePlaced lane (record t { done = t.done ++ trip.tx ∷ [] }) (record r { home = home'; arrived = arrived' }) (record bus { flight = None; flight_mark = None; halted = h })
+    → ArePlaced lane (record t { done = t.done ++ trip.tx ∷ [] }) (record r { home = home'; arrived = arrived' }) (record bus { flight = None; flight_mark = None; attempts = 0; halted = h })
 land_placed lane t r bus trip home' arrived' h p out numbers total = assumption (
   p,
-  tx_moved p (record t { done = t.done ++ trip.tx ∷ [] }) (record bus { flight = None; flight_mark = None; halted = h }) refl
+  tx_moved p (record t { done = t.done ++ trip.tx ∷ [] }) (record bus { flight = None; flight_mark = None; attempts = 0; halted = h }) refl
       (λ n.
       let f : copies n (flight_tx bus.flight) ≡ one_if (eqb n trip.tx.number) + 0 = ap (λ x. copies n (flight_tx x)) out in
       let d : copies n (map number_of (t.done ++ trip.tx ∷ [])) ≡ copies n (map number_of t.done) + one_if (eqb n trip.tx.number) = copies_more n t.done trip.tx in omega arith)
       (let f : length (flight_tx bus.flight) ≡ 1 = ap (λ x. length (flight_tx x)) out in
       let d : length (t.done ++ trip.tx ∷ []) ≡ length t.done + 1 = length_push t.done trip.tx in omega arith),
-  rx_moved p (record r { home = home'; arrived = arrived' }) (record bus { flight = None; flight_mark = None; halted = h }) refl
+  rx_moved p (record r { home = home'; arrived = arrived' }) (record bus { flight = None; flight_mark = None; attempts = 0; halted = h }) refl
       (λ n.
       let f : copies n (flight_rx bus.flight) ≡ one_if (eqb n trip.rx) + 0 = ap (λ x. copies n (flight_rx x)) out in
       let s : copies n home' + copies n (map number_of arrived') ≡ copies n r.home + copies n (map number_of r.arrived) + one_if (eqb n trip.rx) = numbers n in omega arith)
@@ -64,7 +66,7 @@ total_arrived r x = let e : length (r.arrived ++ x ∷ []) ≡ length r.arrived 
 
 land_queues : (g : History) (deferred : List Buffer) (bus : Bus) (waits' flies' : ℕ → Bool) (halted' h : Bool) → AreQueued deferred bus (waiting g) (flying g) (mark g) (halted g) (posts g) (recalls g) (flights g) (made g)
     → ((j : ℕ) → waits' j ≡ waits g j) → ((j : ℕ) → flies' j ≡ false) → halted' ≡ h
-    → AreQueued deferred (record bus { flight = None; flight_mark = None; halted = h }) (those waits' (made g)) (those flies' (made g)) (mark g) halted' (posts g) (recalls g) (flights g) (made g)
+    → AreQueued deferred (record bus { flight = None; flight_mark = None; attempts = 0; halted = h }) (those waits' (made g)) (those flies' (made g)) (mark g) halted' (posts g) (recalls g) (flights g) (made g)
 land_queues g deferred bus waits' flies' halted' h w same none e = record {
   wait = those_same (waits g) waits' (made g) (λ j l. same j) ∙ w.wait;
   fly = those_nothing flies' none (made g);
@@ -87,16 +89,16 @@ module _ (l : Lane) (k : ℕ) (g : History) (sound : IsSound g) (up : flies g k 
     | inr f ↦ f
   ]
 
-  none_over : NoneEnded (landed g k) (failed g k) (was_cut g k)
+  pub none_over : NoneEnded (landed g k) (failed g k) (was_cut g k)
   none_over = aloft_only (flies g k) (landed g k) (failed g k) (was_cut g k) (status g k) (status_of g sound k) up
 
   pub is_made : k < made g
   is_made = elim (cases_lt k (made g)) [ inl h ↦ h | inr h ↦ absurd (false≢true (sym (quiet_grounded g sound k (fresh g sound k h)) ∙ up)) ]
 
-  waits_not : waits g k ≡ false
+  pub waits_not : waits g k ≡ false
   waits_not = rw up refl
 
-  none_fly_now : (j : ℕ) → (not (k == j) && flies g j) ≡ false
+  pub none_fly_now : (j : ℕ) → (not (k == j) && flies g j) ≡ false
   none_fly_now j = elim (cases_eq j k) [
     | inl same ↦ rw (sym same, same_number j) refl
     | inr ne ↦ rw (alone j ne) (and_false (not (k == j)))
@@ -177,16 +179,29 @@ module _ (l : Lane) (k : ℕ) (g : History) (sound : IsSound g) (up : flies g k 
   cut_done c = finish_plus g sound k last_one is_made (ended ((Cut l k c, []) ∷ g)) (rw (same_number k, none_over.not_landed, none_over.not_failed) refl) (λ j ne. rw (apart k j ne) refl)
 
 -- what flies is the flight that is out
-out_flies : (g : History) (flight : Option FlightRecord) (trip : Trip) → IsSound g → flying g ≡ flight_serial flight → flight ≡ Some (record_of trip) → flies g trip.tx.serial ≡ true
+pub out_flies : (g : History) (flight : Option FlightRecord) (trip : Trip) → IsSound g → flying g ≡ flight_serial flight → flight ≡ Some (record_of trip) → flies g trip.tx.serial ≡ true
 out_flies g flight trip sound f out = (those_first_one (flies g) (made g) trip.tx.serial (f ∙ ap flight_serial out))
   where
     those_first_one : (p : ℕ → Bool) (n k : ℕ) → those p n ≡ k ∷ [] → p k ≡ true
     those_first_one p n k e = (those_first p n k (ap first e)).passes
 
-pub arrive_stands : (way : Way) (g : History) (bus' : Bus) (trip : Trip) (fault : Option FaultKind) (tx rx : Buffer) → Stands way g → way.bus.flight ≡ Some (record_of trip) → made_bytes g trip.tx.serial ≡ trip.tx.bytes
-    → Arrives way.bus bus' trip fault tx rx
+-- the flight is the first of those that were tried
+pub first_tried : (attempts' : ℕ → ℕ) (bus : Bus) (trip : Trip) → AreTried attempts' (flight_serial bus.flight ++ map serial_of bus.queue) bus.attempts → bus.flight ≡ Some (record_of trip)
+    → AreTried attempts' (trip.tx.serial ∷ map serial_of bus.queue) bus.attempts
+first_tried attempts' bus trip w out = subst (λ f. AreTried attempts' (flight_serial f ++ map serial_of bus.queue) bus.attempts) out w
+
+land_tries : (g : History) (deferred : List Buffer) (bus : Bus) (trip : Trip) (h : Bool) → AreAttempts deferred bus (attempts g) (made g) → bus.flight ≡ Some (record_of trip)
+    → AreAttempts deferred (record bus { flight = None; flight_mark = None; attempts = 0; halted = h }) (attempts g) (made g)
+land_tries g deferred bus trip h w out = record {
+  tried = tried_rest (attempts g) (map serial_of bus.queue) (first_tried (attempts g) bus trip w.tried out).1;
+  deferred_untried = w.deferred_untried;
+  unmade_untried = w.unmade_untried;
+}
+
+pub arrive_stands : (way : Way) (g : History) (bus' : Bus) (trip : Trip) (plan : Planned) (tx rx : Buffer) → Stands way g → way.bus.flight ≡ Some (record_of trip) → made_bytes g trip.tx.serial ≡ trip.tx.bytes
+    → Arrives way.bus bus' trip plan tx rx
     → Stands (record way { tx = record way.tx { done = way.tx.done ++ tx ∷ [] }; rx = record way.rx { arrived = way.rx.arrived ++ rx ∷ [] }; bus = bus' }) ((Landed way.lane trip.tx.serial, []) ∷ g)
-arrive_stands way g bus' trip fault tx rx w out bytes a =
+arrive_stands way g bus' trip plan tx rx w out bytes a =
     let k = trip.tx.serial in
     let up = out_flies g way.bus.flight trip w.sound w.queues.fly out in
     let text : span g trip.tx.serial ≡ Some (trip.tx.from, trip.tx.to) = subst (FlightIs (λ f. span g f.serial ≡ Some (f.from, f.to))) out w.texts.flight_span in
@@ -197,6 +212,7 @@ arrive_stands way g bus' trip fault tx rx w out bytes a =
       building = w.building;
       queues = land_queues g way.tx.deferred way.bus (waits ((Landed way.lane trip.tx.serial, []) ∷ g)) (flies ((Landed way.lane trip.tx.serial, []) ∷ g)) (halted g) way.bus.halted w.queues
           (landed_waits way.lane trip.tx.serial g w.sound up) (none_fly_now way.lane trip.tx.serial g w.sound up) w.queues.halts;
+      tries = land_tries g way.tx.deferred way.bus trip way.bus.halted w.tries out;
       ends = record {
         done_is = landed_done way.lane trip.tx.serial g w.sound up ∙ (ap (λ ks. ks ++ trip.tx.serial ∷ []) w.ends.done_is ∙ sym (map_last serial_of way.tx.done trip.tx));
         arrived_is = landed_arrived way.lane trip.tx.serial g w.sound up ∙ (ap (λ ks. ks ++ trip.tx.serial ∷ []) w.ends.arrived_is ∙ sym (map_last serial_of way.rx.arrived (received trip)));
@@ -207,10 +223,10 @@ arrive_stands way g bus' trip fault tx rx w out bytes a =
       texts = assumption (w.texts, all_more (IsText (span g) (made_bytes g)) way.rx.arrived (received trip) w.texts.arrived_texts (record { span_is = text; bytes_are = bytes }));
     })
 
-pub fail_stands : (way : Way) (g : History) (bus' : Bus) (trip : Trip) (fault : Option FaultKind) (tx rx : Buffer) (kind : FaultKind) → Stands way g → way.bus.flight ≡ Some (record_of trip)
-    → Fails way.bus bus' trip fault tx rx kind
+pub fail_stands : (way : Way) (g : History) (bus' : Bus) (trip : Trip) (plan : Planned) (tx rx : Buffer) (kind : FaultKind) → Stands way g → way.bus.flight ≡ Some (record_of trip)
+    → Fails way.bus bus' trip plan tx rx kind
     → Stands (record way { tx = record way.tx { done = way.tx.done ++ tx ∷ [] }; rx = record way.rx { home = way.rx.home ++ rx.number ∷ [] }; bus = bus' }) ((Failed way.lane trip.tx.serial kind, []) ∷ g)
-fail_stands way g bus' trip fault tx rx kind w out a =
+fail_stands way g bus' trip plan tx rx kind w out a =
     let up = out_flies g way.bus.flight trip w.sound w.queues.fly out in
     rw (a.rest, a.sent, a.got) (record {
       sound = (up, w.sound);
@@ -219,6 +235,7 @@ fail_stands way g bus' trip fault tx rx kind w out a =
       queues = land_queues g way.tx.deferred way.bus (waits ((Failed way.lane trip.tx.serial kind, []) ∷ g)) (flies ((Failed way.lane trip.tx.serial kind, []) ∷ g)) (halted ((Failed way.lane trip.tx.serial kind, []) ∷ g)) (halts kind || way.bus.halted) w.queues
           (failed_waits way.lane trip.tx.serial g w.sound up kind) (none_fly_now way.lane trip.tx.serial g w.sound up)
           (failed_halts way.lane trip.tx.serial g w.sound up kind ∙ ap (λ b. halts kind || b) w.queues.halts);
+      tries = land_tries g way.tx.deferred way.bus trip (halts kind || way.bus.halted) w.tries out;
       ends = record {
         done_is = failed_done way.lane trip.tx.serial g w.sound up kind ∙ (ap (λ ks. ks ++ trip.tx.serial ∷ []) w.ends.done_is ∙ sym (map_last serial_of way.tx.done trip.tx));
         arrived_is = w.ends.arrived_is;
@@ -244,6 +261,7 @@ sever_stands way g bus' trip tx rx c w out a =
       building = w.building;
       queues = land_queues g way.tx.deferred way.bus (waits ((Cut way.lane trip.tx.serial c, []) ∷ g)) (flies ((Cut way.lane trip.tx.serial c, []) ∷ g)) (halted g) way.bus.halted w.queues
           (cut_waits way.lane trip.tx.serial g w.sound up c) (none_fly_now way.lane trip.tx.serial g w.sound up) w.queues.halts;
+      tries = land_tries g way.tx.deferred way.bus trip way.bus.halted w.tries out;
       ends = record {
         done_is = cut_done way.lane trip.tx.serial g w.sound up c ∙ (ap (λ ks. ks ++ trip.tx.serial ∷ []) w.ends.done_is ∙ sym (map_last serial_of way.tx.done trip.tx));
         arrived_is = w.ends.arrived_is;

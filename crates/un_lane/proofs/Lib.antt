@@ -4,9 +4,11 @@ mod Contents
 mod Counting
 mod Placing
 mod Serials
+mod Trying
 mod Finishing
 mod Taking
 mod Landing
+mod Retrying
 mod Opening
 mod Giving
 pub mod Making

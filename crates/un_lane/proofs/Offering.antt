@@ -258,6 +258,7 @@ keep_stands way g t sender frame w k =
         remainder = λ o n. absurd (false≢true (sym (ap is_some n) ∙ (both.2 ∙ ap (λ l. claims_when l true) o)));
       };
       queues = w.queues;
+      tries = assumption w.tries;
       ends = w.ends;
       counts = record {
         tx = let e : length way.tx.home + length (option_to_list way.tx.builder.claim) ≡ length t.home + length (option_to_list t.builder.claim) = both.1 in let s = w.counts.tx in omega (arith, s);

@@ -96,6 +96,7 @@ tx_done_stands way g t serial w h =
       placed = home_placed way.lane way.tx way.rx way.bus h.request t.home t.done w.placed h.left h.home_is;
       building = w.building;
       queues = w.queues;
+      tries = assumption w.tries;
       ends = record {
         done_is = those_rest (λ j. ended g j && nat_le (returned g) j) (λ j. ended g j && nat_le (returned g + 1) j) h.request.serial
             (rw (f.0, le_past (returned g)) (and_no (ended g h.request.serial))) (λ j ne. ap (λ b. ended g j && b) (le_next (returned g) j (λ e. ne (e ∙ sym f.0)))) (made g) (map serial_of t.done)
@@ -225,6 +226,7 @@ rx_done_stands way g r serial w o =
       placed = open_placed way.lane way.tx way.rx way.bus o.request r.arrived w.placed o.none o.left;
       building = w.building;
       queues = w.queues;
+      tries = assumption w.tries;
       ends = record {
         done_is = w.ends.done_is;
         arrived_is = open_arrived way.lane o.request.serial g w.sound (map serial_of r.arrived) none arr;

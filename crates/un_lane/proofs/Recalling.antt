@@ -34,6 +34,7 @@ recall_stands way g bus' x w' e =
       placed = recall_placed way.lane way.tx way.rx bus' x w.placed;
       building = w.building;
       queues = assumption (w.queues, posted);
+      tries = assumption w.tries;
       ends = w.ends;
       counts = record {
         tx = w.counts.tx;

@@ -16,6 +16,7 @@ use Rattle.un_lane.specs.Controls.{resumed, QueuesFirst}
 use Rattle.un_lane.specs.Stands.{Stands, ArePlaced, AreQueued, AreMarked, IsTx, serial_of, flight_tx}
 use Rattle.un_lane.proofs.Counting.{copies_more}
 use Rattle.un_lane.proofs.Placing.{tx_moved}
+use Rattle.un_lane.proofs.Trying.{resumed_tries}
 
 pub queue_placed : (lane : Lane) (t : Transmitter) (r : Receiver) (bus : Bus) (x : Buffer) (xs : List Buffer) → ArePlaced lane t r bus → t.deferred ≡ x ∷ xs
     → ArePlaced lane (record t { deferred = xs }) r (record bus { queue = bus.queue ++ x ∷ [] })
@@ -102,6 +103,7 @@ resumed_stands way g w = record {
   placed = all_placed way.lane way.tx way.rx way.bus way.tx.deferred w.placed;
   building = w.building;
   queues = resumed_queues way.tx.deferred way.bus _ _ _ _ _ _ _ _ w.queues;
+  tries = resumed_tries way.tx.deferred way.bus _ _ w.tries;
   ends = w.ends;
   counts = w.counts;
   texts = assumption (w.texts, all_joined _ way.bus.queue way.tx.deferred w.texts.queued_texts w.texts.deferred_texts);

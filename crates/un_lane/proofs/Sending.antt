@@ -14,19 +14,21 @@ use Rattle.un_endpoint.specs.Bus.{Bus}
 use Rattle.un_endpoint.specs.Ends.{Builder, Transmitter, Receiver, IsAwayTx}
 use Rattle.un_journal.specs.declared.lines.Line.TheVariants.{Made}
 use Rattle.un_journal.specs.Sound.{IsSound, IsNextSpan}
-use Rattle.un_journal.specs.History.{History, made, returned, waiting, flying, mark, halted, posts, recalls, flights, failures, flight_cuts, arrived, current, delivered, left_of, span, made_bytes}
-use Rattle.un_lane.specs.Stands.{ArePlaced, AreQueued, AreAtEnds, AreCounted, AreTexts, IsTx, finished, flight_tx}
+use Rattle.un_journal.specs.History.{History, made, returned, waiting, flying, mark, halted, attempts, posts, recalls, flights, failures, retries, flight_cuts, arrived, current, delivered, left_of, span, made_bytes}
+use Rattle.un_lane.specs.Stands.{ArePlaced, AreQueued, AreAttempts, AreAtEnds, AreCounted, AreTexts, IsTx, finished, flight_tx}
 use Rattle.un_lane.proofs.Counting.{copies_more}
 use Rattle.un_lane.proofs.Making.{made_ends, made_queued, made_deferred, made_texts, new_text, delivered_same}
 use Rattle.un_lane.proofs.Placing.{tx_moved}
+use Rattle.un_lane.proofs.Trying.{queued_tries, deferred_tries}
 
 -- what a path stands for, but for what is built
 pub record StandsBut (lane : Lane) (t : Transmitter) (r : Receiver) (bus : Bus) (g : History) : Type 0 where
   pub sound : IsSound g
   pub placed : ArePlaced lane t r bus
   pub queues : AreQueued t.deferred bus (waiting g) (flying g) (mark g) (halted g) (posts g) (recalls g) (flights g) (made g)
+  pub tries : AreAttempts t.deferred bus (attempts g) (made g)
   pub ends : AreAtEnds t.done r.arrived r.current (finished g) (arrived g) (current g) (left_of g)
-  pub counts : AreCounted (tx_size t.params lane) (rx_size t.params lane) (length t.home) (length r.home) (length (option_to_list t.builder.claim)) (made g) (returned g) (posts g) (recalls g) (failures g) (flight_cuts g) (length (delivered g))
+  pub counts : AreCounted (tx_size t.params lane) (rx_size t.params lane) (length t.home) (length r.home) (length (option_to_list t.builder.claim)) (made g) (returned g) (posts g) (recalls g) (failures g) (retries g) (flight_cuts g) (length (delivered g))
   pub texts : AreTexts t.params.class t.deferred bus.queue r.arrived r.current bus.flight (span g) (made_bytes g)
 
 -- a request that was used to make a transfer
@@ -97,7 +99,7 @@ abbrev line : Lane → History → Buffer → History
 line lane g x = (Made lane (made g) x.from x.to, x.bytes) ∷ g
 
 counts_after : (lane : Lane) (t : Transmitter) (r : Receiver) (bus : Bus) (home' : List ℕ) (builder' : Builder) (g : History) (x : Buffer) → StandsBut lane t r bus g → IsNew t home' builder' g x
-    → AreCounted (tx_size t.params lane) (rx_size t.params lane) (length home') (length r.home) (length (option_to_list builder'.claim)) (made g + 1) (returned g) (posts g) (recalls g) (failures g) (flight_cuts g) (length (delivered ((Made lane (made g) x.from x.to, x.bytes) ∷ g)))
+    → AreCounted (tx_size t.params lane) (rx_size t.params lane) (length home') (length r.home) (length (option_to_list builder'.claim)) (made g + 1) (returned g) (posts g) (recalls g) (failures g) (retries g) (flight_cuts g) (length (delivered ((Made lane (made g) x.from x.to, x.bytes) ∷ g)))
 counts_after lane t r bus home' builder' g x w n = rw (delivered_same lane x.from x.to x.bytes g w.sound) (record {
   tx = let e : length t.home + length (option_to_list t.builder.claim) ≡ length home' + length (option_to_list builder'.claim) + 1 = n.count in let s = w.counts.tx in omega (arith, s);
   rx = w.counts.rx;
@@ -112,6 +114,7 @@ queue_stands lane t r bus home' builder' g x w n none =
       sound = ((refl, n.next), w.sound);
       placed = queued_placed lane t r bus home' builder' g x w.placed n;
       queues = made_queued lane x.from x.to x.bytes g w.sound t.deferred bus x n.serial_is none w.queues;
+      tries = queued_tries t.deferred bus x (attempts g) (made g) n.serial_is w.tries;
       ends = made_ends lane x.from x.to x.bytes g w.sound t.done r.arrived r.current w.ends;
       counts = counts_after lane t r bus home' builder' g x w n;
       texts = assumption (texts, all_more _ bus.queue x texts.queued_texts (new_text lane x.from x.to x.bytes g w.sound x n.serial_is refl refl refl));
@@ -126,6 +129,7 @@ defer_stands lane t r bus home' builder' g x w n none no_flight out =
       sound = ((refl, n.next), w.sound);
       placed = deferred_placed lane t r bus home' builder' g x w.placed n out;
       queues = made_deferred lane x.from x.to x.bytes g w.sound t.deferred bus x n.serial_is none no_flight w.queues;
+      tries = deferred_tries t.deferred bus x (attempts g) (made g) n.serial_is w.tries;
       ends = made_ends lane x.from x.to x.bytes g w.sound t.done r.arrived r.current w.ends;
       counts = counts_after lane t r bus home' builder' g x w n;
       texts = assumption (texts, all_more _ t.deferred x texts.deferred_texts (new_text lane x.from x.to x.bytes g w.sound x n.serial_is refl refl refl));

@@ -19,6 +19,21 @@ those_plus p q k here low high past (suc n) h = elim (cases_lt k n) [
       rw (those_same p q n (λ j i. low j (omega arith)), qn, high n (omega arith), append-nil) (ap (λ i. those p n ++ i ∷ []) (sym same))
 ]
 
+-- q passes k, which is below all that p passes, and what p passes
+pub those_front : (p q : ℕ → Bool) (k : ℕ) → q k ≡ true → ((j : ℕ) → (j ≡ k → ⊥) → q j ≡ p j) → ((j : ℕ) → j ≤ k → p j ≡ false) → (n : ℕ) → k < n → those q n ≡ k ∷ those p n
+those_front p q k here other low zero h = absurd (omega arith)
+those_front p q k here other low (suc n) h = elim (cases_lt k n) [
+  | inl below ↦ rw (those_front p q k here other low n below, other n (λ e. omega arith)) refl
+  | inr above ↦
+      let same : k ≡ n = omega arith in
+      let qn : q n ≡ true = subst (λ i. q i ≡ true) same here in
+      rw (those_same p q n (λ j i. other j (λ e. omega arith)), none_below n (λ j i. low j (omega arith)), qn, low n (omega arith)) (ap (λ i. i ∷ []) (sym same))
+]
+  where
+    none_below : (m : ℕ) → ((j : ℕ) → j < m → p j ≡ false) → those p m ≡ []
+    none_below zero none = refl
+    none_below (suc m) none = rw (none_below m (λ j i. none j (omega arith)), none m (omega arith)) refl
+
 -- q passes k alone
 pub those_single : (q : ℕ → Bool) (k : ℕ) → q k ≡ true → ((j : ℕ) → (j ≡ k → ⊥) → q j ≡ false) → (n : ℕ) → k < n → those q n ≡ k ∷ []
 those_single q k here other n h =

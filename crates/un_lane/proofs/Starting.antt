@@ -93,6 +93,7 @@ fresh_stands lane params tx_count rx_count tx_capacity rx_capacity t r w = recor
     posted = omega arith;
     grounded = λ h. absurd (omega arith);
   };
+  tries = record { tried = refl; deferred_untried = tt; unmade_untried = λ j h. refl };
   ends = record { done_is = refl; arrived_is = refl; current_is = refl; left_is = tt };
   counts = record {
     tx = let l : length (upto tx_count) ≡ tx_count = length_upto tx_count in omega (arith, t);

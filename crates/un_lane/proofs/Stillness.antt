@@ -1,5 +1,5 @@
 -- Whether a lane is still, by what its path has.
-use Rattle.std.proofs.Common.{◌≡◌, ℕ, zero, suc, ◌+◌, ◌-◌, ◌<◌, Bool, true, false, not, ◌&&◌, ◌||◌, ◌==◌, nat_lt, List, [], ◌∷◌, length, map, drop, Option, Some, None, is_some, refl, sym, ap, ◌∙◌, subst, arith, length-append, length-drop, if◌then◌else◌}
+use Rattle.std.proofs.Common.{◌≡◌, ℕ, zero, suc, ◌+◌, ◌-◌, ◌<◌, ◌≤◌, Bool, true, false, not, ◌&&◌, ◌||◌, ◌==◌, nat_lt, List, [], ◌∷◌, length, map, drop, Option, Some, None, is_some, refl, sym, ap, ◌∙◌, subst, arith, length-append, length-drop, if◌then◌else◌}
 use Rattle.std.proofs.lemmas.Bool.Decides.{nat_tests}
 use Rattle.std.proofs.lemmas.List.{length-map}
 use Rattle.std.specs.List.{list_all}
@@ -53,10 +53,10 @@ twice : (b : Bool) → not (not b) ≡ b
 twice true = refl
 twice false = refl
 
-pub can_offer_is : (way : Way) (g : History) (sender : ℕ) (frame : List ℕ) (size : ℕ) (answer : Bool) → Stands way g → CanOffer way.tx size answer → length frame ≡ size
+pub can_offer_is : (way : Way) (g : History) (sender : ℕ) (frame : List ℕ) (size : ℕ) (answer : Bool) → Stands way g → CanOffer way.tx size answer → length frame ≡ size → size ≤ way.tx.params.segment
     → is_still (accept way.tx.params way.lane sender (with_frame way.tx frame) g) ≡ not answer
-can_offer_is way g sender frame size answer w can e =
-    accept_still way g sender frame w ∙ (sym (twice (is_busy way.tx frame way.accepted)) ∙ ap not (sym (can frame way.accepted e next)))
+can_offer_is way g sender frame size answer w can e most =
+    accept_still way g sender frame w ∙ (sym (twice (is_busy way.tx frame way.accepted)) ∙ ap not (sym (can frame way.accepted e most next)))
   where
     next : 0 < length way.tx.builder.frames → way.accepted ≡ way.tx.builder.from + length way.tx.builder.frames
     next h =

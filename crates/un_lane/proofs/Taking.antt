@@ -13,14 +13,15 @@ use Rattle.un_endpoint.specs.Bus.{Bus, Trip, record_of}
 use Rattle.un_endpoint.specs.Outcomes.{Departs, Reaps}
 use Rattle.un_endpoint.specs.Ends.{Transmitter, Receiver, IsAwayTx, tx_copies}
 use Rattle.un_journal.specs.declared.lines.Line.TheVariants.{Flying, Cut}
-use Rattle.un_journal.specs.History.{History, made, flies, waits, waiting, flying, ended, landed, failed, was_cut, mark, halted, posts, recalls, flights, first, span, made_bytes, ends}
+use Rattle.un_journal.specs.History.{History, attempts, made, flies, waits, waiting, flying, ended, landed, failed, was_cut, mark, halted, posts, recalls, flights, first, span, made_bytes, ends}
 use Rattle.un_journal.specs.Sound.{IsNext}
 use Rattle.un_journal.proofs.ForLane.{those_rest, next_from, in_order, next_is}
 use Rattle.un_lane.specs.Way.{Way}
-use Rattle.un_lane.specs.Stands.{Stands, ArePlaced, AreQueued, AreMarked, IsTx, IsRx, IsText, serial_of, flight_serial, flight_tx, flight_rx}
+use Rattle.un_lane.specs.Stands.{Stands, ArePlaced, AreQueued, AreMarked, AreTried, IsTx, IsRx, IsText, serial_of, flight_serial, flight_tx, flight_rx}
 use Rattle.un_lane.proofs.Counting.{copies_more, map_last}
 use Rattle.un_lane.proofs.Finishing.{finish_plus}
 use Rattle.un_lane.proofs.Placing.{tx_moved, rx_moved}
+use Rattle.un_lane.proofs.Trying.{tried_rest}
 use Rattle.un_lane.proofs.Serials.{those_single, those_nothing, apart, same_number}
 
 -- where something is queued nothing is deferred
@@ -104,17 +105,25 @@ next_queued way g x xs w alone q =
     next_from g x.serial w.sound (w.queues.fly ∙ ap flight_serial alone)
     (ap first (queue_waits way.tx.deferred way.bus x xs (waiting g) d q w.queues.wait))
 
+-- with no flight the first queued transfer has the count
+waiting_tried : (attempts' : ℕ → ℕ) (flight : Option FlightRecord) (queue : List Buffer) (count : ℕ) (x : Buffer) (xs : List Buffer) → AreTried attempts' (flight_serial flight ++ map serial_of queue) count → flight ≡ None → queue ≡ x ∷ xs
+    → AreTried attempts' (x.serial ∷ map serial_of xs) count
+waiting_tried attempts' flight queue count x xs w alone q =
+    subst (λ (ys : List Buffer). AreTried attempts' (map serial_of ys) count) q (subst (λ f. AreTried attempts' (flight_serial f ++ map serial_of queue) count) alone w)
+
 pub depart_stands : (way : Way) (g : History) (bus' : Bus) (trip : Trip) → Stands way g → Departs way.bus bus' trip
     → Stands (record way { bus = bus' }) ((Flying way.lane trip.tx.serial, []) ∷ g)
 depart_stands way g bus' trip w dep =
     let next = next_queued way g trip.tx bus'.queue w dep.alone dep.left in
     let texts = subst (AllByRecursion (IsText (span g) (made_bytes g))) dep.left w.texts.queued_texts in
+    let tried = waiting_tried (attempts g) way.bus.flight way.bus.queue way.bus.attempts trip.tx bus'.queue w.tries.tried dep.alone dep.left in
     let stands : Stands (record way { bus = record way.bus { queue = bus'.queue; posted = bus'.posted; flight = Some (record_of trip); flight_mark = None } }) ((Flying way.lane trip.tx.serial, []) ∷ g) =
     record {
       sound = (next, w.sound);
       placed = depart_placed way.lane way.tx way.rx way.bus trip dep.posted bus'.queue bus'.posted w.placed dep.alone dep.left dep.used dep.number dep.capacity;
       building = w.building;
       queues = depart_queues way.lane g way.tx.deferred way.bus trip dep.posted bus'.queue bus'.posted next w.queues dep.unmarked dep.left dep.used;
+      tries = record { tried = tried; deferred_untried = w.tries.deferred_untried; unmade_untried = w.tries.unmade_untried };
       ends = w.ends;
       counts = w.counts;
       texts = assumption (w.texts, texts.1, texts.0.span_is);
@@ -136,12 +145,12 @@ queued_away lane t r bus x xs p q =
     }
 
 reap_placed : (lane : Lane) (t : Transmitter) (r : Receiver) (bus : Bus) (x : Buffer) (queue' : List Buffer) (marks' : List ℕ) → ArePlaced lane t r bus → bus.queue ≡ x ∷ queue'
-    → ArePlaced lane (record t { done = t.done ++ x ∷ [] }) r (record bus { queue = queue'; marks = marks' })
+    → ArePlaced lane (record t { done = t.done ++ x ∷ [] }) r (record bus { queue = queue'; marks = marks'; attempts = 0 })
 reap_placed lane t r bus x queue' marks' p q =
     let queued = subst (AllByRecursion (IsTx t.size t.capacity)) q p.queued_are in
     assumption (
       p,
-      tx_moved p (record t { done = t.done ++ x ∷ [] }) (record bus { queue = queue'; marks = marks' }) refl
+      tx_moved p (record t { done = t.done ++ x ∷ [] }) (record bus { queue = queue'; marks = marks'; attempts = 0 }) refl
           (λ n.
           let e : copies n (map number_of bus.queue) ≡ one_if (eqb n x.number) + copies n (map number_of queue') = ap (λ xs. copies n (map number_of xs)) q in
           let d : copies n (map number_of (t.done ++ x ∷ [])) ≡ copies n (map number_of t.done) + one_if (eqb n x.number) = copies_more n t.done x in omega arith)
@@ -171,7 +180,7 @@ module _ (l : Lane) (k c : ℕ) (g : History) (next : IsNext g k) where
 reap_queues : (l : Lane) (g : History) (deferred : List Buffer) (bus : Bus) (x : Buffer) (queue' : List Buffer) (c : ℕ) (marks' : List ℕ) → IsNext g x.serial
     → AreQueued deferred bus (waiting g) (flying g) (mark g) (halted g) (posts g) (recalls g) (flights g) (made g)
     → bus.flight ≡ None → bus.queue ≡ x ∷ queue' → bus.marks ≡ c ∷ marks'
-    → (mark g x.serial ≡ Some c) × AreQueued deferred (record bus { queue = queue'; marks = marks' })
+    → (mark g x.serial ≡ Some c) × AreQueued deferred (record bus { queue = queue'; marks = marks'; attempts = 0 })
     (waiting ((Cut l x.serial c, []) ∷ g)) (flying ((Cut l x.serial c, []) ∷ g)) (mark g) (halted g) (posts g) (recalls g) (flights g) (made g)
 reap_queues l g deferred bus x queue' c marks' next w alone q m =
     let d : deferred ≡ [] = none_deferred deferred bus.queue bus.flight x queue' w.grounded q in
@@ -199,12 +208,14 @@ reap_stands way g bus' x c w rep =
     let texts = subst (AllByRecursion (IsText (span g) (made_bytes g))) rep.left w.texts.queued_texts in
     let queues = reap_queues way.lane g way.tx.deferred way.bus x bus'.queue c bus'.marks next w.queues rep.alone rep.left rep.marked in
     let last : x.serial ≡ ends g = next_is g w.sound (in_order g w.sound) x.serial next in
-    let stands : Stands (record way { tx = record way.tx { done = way.tx.done ++ x ∷ [] }; bus = record way.bus { queue = bus'.queue; marks = bus'.marks } }) ((Cut way.lane x.serial c, []) ∷ g) =
+    let tried = waiting_tried (attempts g) way.bus.flight way.bus.queue way.bus.attempts x bus'.queue w.tries.tried rep.alone rep.left in
+    let stands : Stands (record way { tx = record way.tx { done = way.tx.done ++ x ∷ [] }; bus = record way.bus { queue = bus'.queue; marks = bus'.marks; attempts = 0 } }) ((Cut way.lane x.serial c, []) ∷ g) =
     record {
       sound = (inr next, w.sound);
       placed = reap_placed way.lane way.tx way.rx way.bus x bus'.queue bus'.marks w.placed rep.left;
       building = w.building;
       queues = queues.1;
+      tries = record { tried = subst (λ f. AreTried (attempts g) (flight_serial f ++ map serial_of bus'.queue) 0) (sym rep.alone) (tried_rest (attempts g) (map serial_of bus'.queue) tried.1); deferred_untried = w.tries.deferred_untried; unmade_untried = w.tries.unmade_untried };
       ends = record {
         done_is = finish_plus g w.sound x.serial last next.is_made (ended ((Cut way.lane x.serial c, []) ∷ g))
             (rw (same_number x.serial) (or_true (landed g x.serial || failed g x.serial))) (λ j ne. rw (apart x.serial j ne) refl)

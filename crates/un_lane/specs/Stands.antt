@@ -14,7 +14,7 @@ use Rattle.un_req.specs.Request.{Buffer, number_of}
 use Rattle.un_endpoint.specs.declared.record.FlightRecord.{FlightRecord}
 use Rattle.un_endpoint.specs.Bus.{Bus}
 use Rattle.un_endpoint.specs.Ends.{Builder, Transmitter, Receiver, Opened, tx_copies, rx_copies, tx_count, rx_count}
-use Rattle.un_journal.specs.History.{History, taken, made, cover, took_last, waited_after, waiting, flying, arrived, current, delivered, ended, those, posts, recalls, flights, failures, flight_cuts, returned, halted, mark, left_of, span, made_bytes, row_from}
+use Rattle.un_journal.specs.History.{History, taken, made, cover, took_last, waited_after, waiting, flying, arrived, current, delivered, ended, those, posts, recalls, flights, failures, flight_cuts, returned, halted, mark, attempts, retries, left_of, span, made_bytes, row_from}
 use Rattle.un_journal.specs.Sound.{IsSound}
 use Rattle.un_lane.specs.Way.{Way}
 
@@ -156,12 +156,26 @@ pub record AreAtEnds (done : List Buffer) (arrived'' : List Buffer) (opened' : O
   pub current_is : current' ≡ opened_serial opened'
   pub left_is : CurrentIs (IsLeft left') opened'
 
+-- HOW OFTEN TRANSFERS WERE TRIED
+
+-- so many attempts have failed of the first of these transfers, and none of the others
+abbrev pub AreTried : (ℕ → ℕ) → List ℕ → ℕ → Type 0
+AreTried attempts' [] count = count ≡ 0
+AreTried attempts' (k ∷ ks) count = (attempts' k ≡ count) × AllByRecursion (λ j. attempts' j ≡ 0) ks
+
+-- The failed attempts of the transfers that fly or are queued are those of the lines: the endpoint's count for the first, none for the
+-- others. No transfer that is deferred or isn't made was tried.
+pub record AreAttempts (deferred : List Buffer) (bus : Bus) (attempts' : ℕ → ℕ) (made' : ℕ) : Type 0 where
+  pub tried : AreTried attempts' (flight_serial bus.flight ++ map serial_of bus.queue) bus.attempts
+  pub deferred_untried : AllByRecursion (λ r. attempts' r.serial ≡ 0) deferred
+  pub unmade_untried : (j : ℕ) → made' ≤ j → attempts' j ≡ 0
+
 -- HOW MANY ARE HOME
 
 -- the requests at home are as many as the lines say, told as sums
-pub record AreCounted (tx_size' rx_size' : ℕ) (tx_home rx_home claims : ℕ) (made' returned' posts' recalls' failures' cuts' delivered' : ℕ) : Type 0 where
+pub record AreCounted (tx_size' rx_size' : ℕ) (tx_home rx_home claims : ℕ) (made' returned' posts' recalls' failures' retries' cuts' delivered' : ℕ) : Type 0 where
   pub tx : made' + tx_home + claims ≡ tx_size' + returned'
-  pub rx : posts' + rx_home ≡ rx_size' + recalls' + failures' + cuts' + delivered'
+  pub rx : posts' + rx_home ≡ rx_size' + recalls' + failures' + retries' + cuts' + delivered'
 
 -- WHAT THE REQUESTS HOLD
 
@@ -187,6 +201,7 @@ pub record Stands (way : Way) (g : History) : Type 0 where
   pub placed : ArePlaced way.lane way.tx way.rx way.bus
   pub building : IsBuilt way.lane way.tx.params way.tx.builder way.accepted way.made (taken g) (made g) (cover g) (took_last g) (waited_after g (min (taken g - 1) (cover g + 1)))
   pub queues : AreQueued way.tx.deferred way.bus (waiting g) (flying g) (mark g) (halted g) (posts g) (recalls g) (flights g) (made g)
+  pub tries : AreAttempts way.tx.deferred way.bus (attempts g) (made g)
   pub ends : AreAtEnds way.tx.done way.rx.arrived way.rx.current (finished g) (arrived g) (current g) (left_of g)
-  pub counts : AreCounted (tx_size way.tx.params way.lane) (rx_size way.tx.params way.lane) (length way.tx.home) (length way.rx.home) (length (option_to_list way.tx.builder.claim)) (made g) (returned g) (posts g) (recalls g) (failures g) (flight_cuts g) (length (delivered g))
+  pub counts : AreCounted (tx_size way.tx.params way.lane) (rx_size way.tx.params way.lane) (length way.tx.home) (length way.rx.home) (length (option_to_list way.tx.builder.claim)) (made g) (returned g) (posts g) (recalls g) (failures g) (retries g) (flight_cuts g) (length (delivered g))
   pub texts : AreTexts way.tx.params.class way.tx.deferred way.bus.queue way.rx.arrived way.rx.current way.bus.flight (span g) (made_bytes g)

@@ -3,7 +3,7 @@ use Rattle.std.proofs.Common.{◌≡◌, ℕ, ◌+◌, ◌<◌, Bool, true, fals
 use Rattle.std.proofs.lemmas.Bool.{and_parts, not-true}
 use Rattle.std.proofs.lemmas.Bool.Decides.{nat_tests}
 use Rattle.std.specs.List.{list_any}
-use Rattle.std.specs.Prelude.{codes}
+use Rattle.std.specs.Prelude.{codes, IsTrue}
 use Rattle.std.specs.Result.{result_ok}
 use Rattle.std.specs.Str.{bytes_eq}
 use Rattle.un_text.specs.Words.{kind_named, words_in}
@@ -13,15 +13,18 @@ use Rattle.hex.specs.declared.error.FromHexError.{FromHexError}
 use Rattle.hex.specs.Hex.{decode_of}
 use Rattle.un_journal.specs.declared.controls.Control.{Control as Command}
 use Rattle.un_journal.specs.Script.{Script, Frame, planned, frame_count}
+use Rattle.un_frame.specs.declared.params.Lane.{Lane}
+use Rattle.un_frame.specs.declared.kinds.Planned.{Planned}
+use Rattle.un_frame.specs.declared.kinds.Planned.TheVariants.{Clean, Proto, Halt}
 use Rattle.un_script.specs.declared.why.Why.{Why}
 use Rattle.un_script.specs.declared.why.Why.TheVariants.{Word, Order, Number, Range, Hex, Count, Control, Fault}
 use Rattle.un_script.specs.Words.{is_spelled, lines_of, is_skipped, has_no_byte}
 use Rattle.un_script.specs.Numbers.{number_of, bytes_of, byte_of}
 use Rattle.un_frame.specs.Params.{defaults}
-use Rattle.un_script.specs.Table.{control_named, parameter_named, place_of, is_allowed, is_filter, is_pool_size, is_sender, is_want, is_planned_serial, may_follow, with_number, CLASS_PLACE, FILTER_PLACE, REQUESTS_PLACE, BODY_PLACE, MOST_FRAMES, MOST_CONTROLS, MOST_FAULTS}
+use Rattle.un_script.specs.Table.{control_named, fault_named, parameter_named, place_of, is_allowed, is_filter, is_pool_size, is_sender, is_want, is_planned_serial, is_fault, is_times, may_follow, with_number, CLASS_PLACE, FILTER_PLACE, REQUESTS_PLACE, BODY_PLACE, MOST_FRAMES, MOST_CONTROLS, MOST_FAULTS}
 use Rattle.un_script.specs.Parts.{HasBytes, empty_script, with_frame, may_come}
 use Rattle.un_script.specs.Ready.{IsReady}
-use Rattle.un_script.specs.Reading.{Reading, placed, now_at, class_line, number_line, filter_line, requests_line, frame_line, control_line, fault_line, due_at, unlink_named, words_read, line_read, at_line, lines_read, nothing_read, script_of}
+use Rattle.un_script.specs.Reading.{Reading, placed, now_at, class_line, number_line, filter_line, requests_line, frame_line, control_line, fault_line, attempts_line, fault_planned, due_at, unlink_named, words_read, line_read, at_line, lines_read, nothing_read, script_of}
 use Rattle.un_script.specs.Law.{ReadScriptsAreReady}
 use Rattle.un_script.proofs.Decoded.{decoded_some}
 use Rattle.un_frame.proofs.Defaults.{defaults_in_range}
@@ -123,21 +126,50 @@ control_line_ready reading next l w command ready h =
     ready_as (now_at BODY_PLACE (record script { controls = script.controls ++ due_at lane want control ∷ [] })) next
     (control_ready script (due_at lane want control) (subst IsReady (is_placed BODY_PLACE reading script at) ready) (needed Range _ fits e4) (below _ _ (needed Count _ room e5)) (needed Control _ comes e6)) h6) h5) h4) h3) h2) h1) h0) h
 
-none_some : {X : Type 0} (o : Option X) → not (is_some o) ≡ true → o ≡ None
-none_some None h = refl
-none_some (Some x) h = absurd (cc)
+is_free : (plan : Planned) → not (is_fault plan) ≡ true → plan ≡ Clean
+is_free Clean h = refl
+is_free (Proto times) h = absurd (cc)
+is_free Halt h = absurd (cc)
+
+named_is_fault : (word : List ℕ) (plan : Planned) → fault_named word ≡ Some plan → IsTrue (is_fault plan)
+named_is_fault word plan h = go (bytes_eq word (codes "halt")) (bytes_eq word (codes "proto")) plan h
+  where
+    go : (halt proto : Bool) (plan : Planned) → (if halt then Some Halt else (if proto then Some (Proto 1) else None)) ≡ Some plan → IsTrue (is_fault plan)
+    go halt proto Clean e = absurd (no_clean halt proto e)
+      where
+        no_clean : (halt proto : Bool) → (if halt then Some Halt else (if proto then Some (Proto 1) else None)) ≡ Some Clean → ⊥
+        no_clean true proto e = cc
+        no_clean false true e = cc
+        no_clean false false e = cc
+    go halt proto (Proto times) e = refl
+    go halt proto Halt e = refl
+
+planned_ready : (lane : Lane) (serial : ℕ) (plan : Planned) (script : Script) (next : Reading) → IsReady script → IsTrue (is_planned_serial serial) → IsTrue (is_fault plan)
+    → fault_planned lane serial plan script ≡ Ok next → IsReady next.script
+planned_ready lane serial plan script next ready fits is_one h =
+    through (IsReady next.script) (needs Count (nat_lt (length script.faults) MOST_FAULTS)) _ next (λ room e5 h5.
+    through (IsReady next.script) (needs Fault (not (is_fault (planned script lane serial)))) _ next (λ first e6 h6.
+    ready_as (now_at BODY_PLACE (record script { faults = script.faults ++ record { lane = lane; serial = serial; planned = plan } ∷ [] })) next
+    (fault_ready script (record { lane = lane; serial = serial; planned = plan }) ready fits is_one (below _ _ (needed Count _ room e5)) (is_free _ (needed Fault _ first e6))) h6) h5) h
 
 fault_line_ready : (reading next : Reading) (l k f : List ℕ) → IsReady reading.script → fault_line reading l k f ≡ Ok next → IsReady next.script
 fault_line_ready reading next l k f ready h =
     through (IsReady next.script) (given Word (lane_named l)) _ next (λ lane e0 h0.
-    through (IsReady next.script) (given Word (kind_named f)) _ next (λ kind e1 h1.
+    through (IsReady next.script) (given Word (fault_named f)) _ next (λ plan e1 h1.
     through (IsReady next.script) (placed BODY_PLACE reading) _ next (λ script at h2.
     through (IsReady next.script) (given Number (number_of k)) _ next (λ serial e3 h3.
     through (IsReady next.script) (needs Range (is_planned_serial serial)) _ next (λ fits e4 h4.
-    through (IsReady next.script) (needs Count (nat_lt (length script.faults) MOST_FAULTS)) _ next (λ room e5 h5.
-    through (IsReady next.script) (needs Fault (not (is_some (planned script lane serial)))) _ next (λ first e6 h6.
-    ready_as (now_at BODY_PLACE (record script { faults = script.faults ++ record { lane = lane; serial = serial; kind = kind } ∷ [] })) next
-    (fault_ready script (record { lane = lane; serial = serial; kind = kind }) (subst IsReady (is_placed BODY_PLACE reading script at) ready) (needed Range _ fits e4) (below _ _ (needed Count _ room e5)) (none_some _ (needed Fault _ first e6))) h6) h5) h4) h3) h2) h1) h0) h
+    planned_ready lane serial plan script next (subst IsReady (is_placed BODY_PLACE reading script at) ready) (needed Range _ fits e4) (named_is_fault f plan (was_given Word _ plan e1)) h4) h3) h2) h1) h0) h
+
+attempts_line_ready : (reading next : Reading) (l k f n : List ℕ) → IsReady reading.script → attempts_line reading l k f n ≡ Ok next → IsReady next.script
+attempts_line_ready reading next l k f n ready h =
+    through (IsReady next.script) (given Word (lane_named l)) _ next (λ lane e0 h0.
+    through (IsReady next.script) (needs Word (bytes_eq f (codes "proto"))) _ next (λ proto e1 h1.
+    through (IsReady next.script) (placed BODY_PLACE reading) _ next (λ script at h2.
+    through (IsReady next.script) (given Number (number_of k)) _ next (λ serial e3 h3.
+    through (IsReady next.script) (given Number (number_of n)) _ next (λ times e4 h4.
+    through (IsReady next.script) (needs Range (is_planned_serial serial && is_times times)) _ next (λ fit e5 h5.
+    planned_ready lane serial (Proto times) script next (subst IsReady (is_placed BODY_PLACE reading script at) ready) (and_parts _ _ (needed Range _ fit e5)).0 refl h5) h4) h3) h2) h1) h0) h
 
 -- a choice of two lines
 either : (b : Bool) (r q : Result Reading Why) (next : Reading) (P : Type 0) → (r ≡ Ok next → P) → (q ≡ Ok next → P) → (if b then r else q) ≡ Ok next → P
@@ -166,7 +198,8 @@ words_ready reading next (key ∷ a ∷ b ∷ c ∷ []) some ready h =
     (λ g. either (bytes_eq key (codes "fault")) (fault_line reading a b c) (Err Word) next (IsReady next.script) (fault_line_ready reading next a b c ready) (λ e. absurd (cc)) g) h
 words_ready reading next (key ∷ a ∷ b ∷ c ∷ d ∷ []) some ready h =
     either (bytes_eq key (codes "at")) (control_line reading a b (unlink_named c d)) _ next (IsReady next.script) (control_line_ready reading next a b (unlink_named c d) ready)
-    (λ g. either (bytes_eq key (codes "requests")) (requests_line reading a b c d) (Err Word) next (IsReady next.script) (requests_ready reading next a b c d ready) (λ e. absurd (cc)) g) h
+    (λ g. either (bytes_eq key (codes "requests")) (requests_line reading a b c d) _ next (IsReady next.script) (requests_ready reading next a b c d ready)
+    (λ q. either (bytes_eq key (codes "fault")) (attempts_line reading a b c d) (Err Word) next (IsReady next.script) (attempts_line_ready reading next a b c d ready) (λ e. absurd (cc)) q) g) h
 words_ready reading next [] some ready h = absurd (cc)
 words_ready reading next (key ∷ []) some ready h = absurd (cc)
 words_ready reading next (key ∷ a ∷ b ∷ c ∷ d ∷ e ∷ rest) some ready h = absurd (cc)

@@ -1,11 +1,13 @@
 -- What a script's lines say, and why a line is refused. Each line's tests stand in the order of the reasons: word, order, number, hex, range, count, control, fault.
-use Rattle.std.specs.Prelude.{◌≡◌, ℕ, ◌+◌, ◌&&◌, ◌==◌, nat_lt, not, List, [], ◌∷◌, ◌++◌, length, codes, Option, Some, None, is_some, Result, Ok, Err, if◌then◌else◌}
+use Rattle.std.specs.Prelude.{◌≡◌, ℕ, ◌+◌, ◌&&◌, ◌==◌, nat_lt, not, List, [], ◌∷◌, ◌++◌, length, codes, Option, Some, None, Result, Ok, Err, if◌then◌else◌}
 use Rattle.std.specs.Str.{bytes_eq}
-use Rattle.un_text.specs.Words.{kind_named, words_in}
+use Rattle.un_text.specs.Words.{words_in}
 use Rattle.un_frame.specs.Spelling.{class_named, lane_named}
 use Rattle.un_facts.specs.Results.{◌>>=◌, needs, given}
 use Rattle.un_frame.specs.declared.params.Class.TheVariants.{Ecm}
 use Rattle.un_frame.specs.declared.params.Lane.{Lane}
+use Rattle.un_frame.specs.declared.kinds.Planned.{Planned}
+use Rattle.un_frame.specs.declared.kinds.Planned.TheVariants.{Proto}
 use Rattle.un_journal.specs.declared.controls.Control.{Control as Command}
 use Rattle.un_journal.specs.declared.controls.Control.TheVariants.{Unlink}
 use Rattle.un_journal.specs.declared.controls.Due.{Due}
@@ -21,7 +23,7 @@ use Rattle.un_script.specs.declared.why.ScriptError.TheVariants.{BadLine}
 use Rattle.un_script.specs.Words.{lines_of, is_skipped, is_spelled}
 use Rattle.un_script.specs.Numbers.{number_of, bytes_of, byte_of}
 use Rattle.un_frame.specs.Params.{defaults}
-use Rattle.un_script.specs.Table.{control_named, parameter_named, CLASS_PLACE, FILTER_PLACE, REQUESTS_PLACE, BODY_PLACE, place_of, may_follow, is_allowed, is_filter, is_pool_size, is_sender, is_want, is_planned_serial, MOST_FRAMES, MOST_CONTROLS, MOST_FAULTS, with_number}
+use Rattle.un_script.specs.Table.{control_named, fault_named, parameter_named, CLASS_PLACE, FILTER_PLACE, REQUESTS_PLACE, BODY_PLACE, place_of, may_follow, is_allowed, is_filter, is_pool_size, is_sender, is_want, is_planned_serial, is_fault, is_times, MOST_FRAMES, MOST_CONTROLS, MOST_FAULTS, with_number}
 use Rattle.un_script.specs.Parts.{empty_script, with_frame, where_some, may_come}
 
 -- what was read so far, and the place of the last line that was read, or 0
@@ -99,17 +101,33 @@ control_line reading l w command = do
   comes ← needs Control (may_come script.controls (due_at lane want control))
   Ok (now_at BODY_PLACE (record script { controls = script.controls ++ due_at lane want control ∷ [] }))
 
--- fault L K KIND
+-- one fault more, for a transfer that has none
+abbrev pub fault_planned : Lane → ℕ → Planned → Script → Result Reading Why
+fault_planned lane serial plan script = do
+  room ← needs Count (nat_lt (length script.faults) MOST_FAULTS)
+  first ← needs Fault (not (is_fault (planned script lane serial)))
+  Ok (now_at BODY_PLACE (record script { faults = script.faults ++ record { lane = lane; serial = serial; planned = plan } ∷ [] }))
+
+-- fault L K halt, fault L K proto
 abbrev pub fault_line : Reading → List ℕ → List ℕ → List ℕ → Result Reading Why
 fault_line reading l k f = do
   lane ← given Word (lane_named l)
-  kind ← given Word (kind_named f)
+  plan ← given Word (fault_named f)
   script ← placed BODY_PLACE reading
   serial ← given Number (number_of k)
   fits ← needs Range (is_planned_serial serial)
-  room ← needs Count (nat_lt (length script.faults) MOST_FAULTS)
-  first ← needs Fault (not (is_some (planned script lane serial)))
-  Ok (now_at BODY_PLACE (record script { faults = script.faults ++ record { lane = lane; serial = serial; kind = kind } ∷ [] }))
+  fault_planned lane serial plan script
+
+-- fault L K proto N
+abbrev pub attempts_line : Reading → List ℕ → List ℕ → List ℕ → List ℕ → Result Reading Why
+attempts_line reading l k f n = do
+  lane ← given Word (lane_named l)
+  proto ← needs Word (bytes_eq f (codes "proto"))
+  script ← placed BODY_PLACE reading
+  serial ← given Number (number_of k)
+  times ← given Number (number_of n)
+  fit ← needs Range (is_planned_serial serial && is_times times)
+  fault_planned lane serial (Proto times) script
 
 -- unlink out, unlink in
 abbrev pub unlink_named : List ℕ → List ℕ → Option Command
@@ -130,7 +148,8 @@ words_read reading (key ∷ a ∷ b ∷ c ∷ []) =
 words_read reading (key ∷ a ∷ b ∷ c ∷ d ∷ []) =
     if bytes_eq key (codes "at") then control_line reading a b (unlink_named c d)
     else (if bytes_eq key (codes "requests") then requests_line reading a b c d
-    else Err Word)
+    else (if bytes_eq key (codes "fault") then attempts_line reading a b c d
+    else Err Word))
 words_read reading words = Err Word
 
 -- a line that isn't skipped

@@ -1,10 +1,12 @@
 -- The words, places, ranges and counts of a script's lines, and the parameters where no line says others.
-use Rattle.std.specs.Prelude.{ℕ, Bool, ◌||◌, ◌==◌, nat_lt, List, [], ◌∷◌, Option, Some, None, codes, if◌then◌else◌}
+use Rattle.std.specs.Prelude.{ℕ, Bool, true, false, ◌||◌, ◌==◌, nat_lt, List, [], ◌∷◌, Option, Some, None, codes, if◌then◌else◌}
 use Rattle.std.specs.Str.{bytes_eq}
 use Rattle.un_facts.specs.Lists.{is_one_of}
 use Rattle.un_facts.specs.Numbers.{is_between}
 use Rattle.un_frame.specs.declared.params.Class.{Class}
 use Rattle.un_frame.specs.declared.params.Params.{Params}
+use Rattle.un_frame.specs.declared.kinds.Planned.{Planned}
+use Rattle.un_frame.specs.declared.kinds.Planned.TheVariants.{Clean, Proto, Halt}
 use Rattle.un_frame.specs.Params.{most_block}
 use Rattle.un_journal.specs.declared.controls.Control.{Control}
 use Rattle.un_journal.specs.declared.controls.Control.TheVariants.{Suspend, Resume, Down, Up, Unplug}
@@ -20,6 +22,19 @@ control_named word =
     else (if bytes_eq word (codes "up") then Some Up
     else (if bytes_eq word (codes "unplug") then Some Unplug
     else None))))
+
+-- the faults of one word: proto alone fails one attempt
+abbrev pub fault_named : List ℕ → Option Planned
+fault_named word =
+    if bytes_eq word (codes "halt") then Some Halt
+    else (if bytes_eq word (codes "proto") then Some (Proto 1)
+    else None)
+
+-- whether a plan is a fault
+abbrev pub is_fault : Planned → Bool
+is_fault Clean = false
+is_fault (Proto times) = true
+is_fault Halt = true
 
 -- the parameters of one number
 abbrev pub parameter_named : List ℕ → Option Parameter
@@ -86,6 +101,10 @@ is_want n = is_between 0 65536 n
 
 abbrev pub is_planned_serial : ℕ → Bool
 is_planned_serial n = is_between 0 65535 n
+
+-- how many attempts of a transfer may be planned to fail
+abbrev pub is_times : ℕ → Bool
+is_times n = is_between 1 4 n
 
 abbrev pub MOST_FRAMES : ℕ
 MOST_FRAMES = 65536

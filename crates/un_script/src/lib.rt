@@ -1,4 +1,17 @@
 //! Scripts: what a run of a link is given, and their text.
+//!
+//! ```text
+//! let script = read(alloc, b"class ecm\nout 0 0aff\nat out 1 suspend\n")?;      // or the first bad line, and why
+//! let params = script.params();                       // those of the class, where no line says others
+//! let frame = script.frame(Lane::Outward, 0, 0);      // the first one of sender 0: Some, of the bytes 0a and ff
+//! let due = script.control(0);                        // Some: suspend, with what makes it due
+//! let load = generate(alloc, 1000)?;                  // a load of 1,000 frames, which needs no text
+//! ```
+//!
+//! A `Script` is read from its text by `read`, made by `generate`, or begun by `Script::make` and filled by its calls.
+//! `number` reads a number as scripts have it. `phase_after` and `phase_settled` tell which phase of a link a control
+//! and a settled stop leave. Whichever way a script was made, it has what `Script::prove_ready` says;
+//! `read_scripts_are_ready` does nothing, and its contract says the same of each text that is read.
 #![tactic(auto)]
 
 mod law;
@@ -10,8 +23,6 @@ mod reader;
 mod script;
 mod state;
 mod table;
-#[cfg(test)]
-mod tests;
 mod why;
 
 pub use law::read_scripts_are_ready;

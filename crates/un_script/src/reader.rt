@@ -1,25 +1,26 @@
 //! A script from its text.
 
-ghost use Rattle.std.specs.Prelude.{◌≡◌, ◌<◌, ◌∷◌, [], Err, IfOk, length};
+ghost use Rattle.std.specs.Prelude.{◌≡◌, ◌<◌, ◌∷◌, [], Err, IfOk, IsTrue, length};
 ghost use Rattle.un_facts.specs.Results.{given};
 ghost use Rattle.un_script.specs.declared.why.Refused.TheVariants.{Because};
 ghost use Rattle.un_script.specs.declared.why.Why.TheVariants.{Hex};
 ghost use Rattle.un_script.specs.Numbers.{bytes_of};
-ghost use Rattle.un_script.specs.Reading.{Gives, ReadGives, now_at, class_line, number_line, filter_line, requests_line, frame_line, control_line, fault_line, words_read, line_read, script_of};
+ghost use Rattle.un_script.specs.Table.{is_fault, is_planned_serial};
+ghost use Rattle.un_script.specs.Reading.{Gives, ReadGives, now_at, class_line, number_line, filter_line, requests_line, frame_line, control_line, fault_line, attempts_line, fault_planned, words_read, line_read, script_of};
 
 use crate::lines::{first_line, is_skipped, is_spelled};
 use crate::numbers::{byte, number};
 use crate::script::Script;
 use crate::state::state_after;
 use crate::table::{
-    control_named, is_allowed, is_filter, is_pool_size, may_follow, parameter_named, place_of,
-    unlink_named, with_number,
+    control_named, fault_named, is_allowed, is_filter, is_pool_size, is_times, may_follow,
+    parameter_named, place_of, unlink_named, with_number,
 };
 use crate::why::{Refused, ScriptError, Why};
 use std::alloc::Global;
-use un_frame::{Bytes, Class, Params};
+use un_frame::{Bytes, Class, Lane, Params, Planned};
 use un_journal::{Control, Due};
-use un_text::{class_named, cut_word, decode, fault_kind_named, is, lane_named};
+use un_text::{class_named, cut_word, decode, is, lane_named};
 
 const CLASS: u8 = 1;
 
@@ -237,14 +238,14 @@ fn control_line(
     Ok(BODY)
 }
 
-/// `fault L K KIND`
+/// `fault L K halt` and `fault L K proto`
 fn fault_line(script: &mut Script, place: u8, l: &[u8], k: &[u8], f: &[u8]) -> Result<u8, Refused>
     ensures { Gives (λ next. now_at next script.new) result (Rattle.un_script.specs.Reading.fault_line (now_at place script.old) l.now k.now f.now) }
 {
     let Some(lane) = lane_named(l) else {
         return refuse(Why::Word);
     };
-    let Some(kind) = fault_kind_named(f) else {
+    let Some(planned) = fault_named(f) else {
         return refuse(Why::Word);
     };
     if !may_follow(place, BODY) {
@@ -256,13 +257,57 @@ fn fault_line(script: &mut Script, place: u8, l: &[u8], k: &[u8], f: &[u8]) -> R
     if serial > 65535 {
         return refuse(Why::Range);
     }
+    plan_fault(script, lane, serial, planned)
+}
+
+/// `fault L K proto N`
+fn attempts_line(
+    script: &mut Script,
+    place: u8,
+    l: &[u8],
+    k: &[u8],
+    f: &[u8],
+    n: &[u8],
+) -> Result<u8, Refused>
+    ensures { Gives (λ next. now_at next script.new) result (Rattle.un_script.specs.Reading.attempts_line (now_at place script.old) l.now k.now f.now n.now) }
+{
+    let Some(lane) = lane_named(l) else {
+        return refuse(Why::Word);
+    };
+    if !is(f, b"proto") {
+        return refuse(Why::Word);
+    }
+    if !may_follow(place, BODY) {
+        return refuse(Why::Order);
+    }
+    let Some(serial) = number(k) else {
+        return refuse(Why::Number);
+    };
+    let Some(times) = number(n) else {
+        return refuse(Why::Number);
+    };
+    if serial > 65535 || !is_times(times) {
+        return refuse(Why::Range);
+    }
+    let times = times as u32;
+    plan_fault(script, lane, serial, Planned::Proto { times })
+}
+
+/// Plans a fault for a transfer.
+fn plan_fault(script: &mut Script, lane: Lane, serial: u64, planned: Planned) -> Result<u8, Refused>
+    requires serial { IsTrue (is_planned_serial serial) }
+    requires fault { IsTrue (is_fault planned) }
+    ensures { Gives (λ next. now_at next script.new) result (fault_planned lane serial planned script.old) }
+{
     if script.fault_count() >= 1024 {
         return refuse(Why::Count);
     }
-    if script.fault(lane, serial).is_some() {
-        return refuse(Why::Fault);
+    match script.fault(lane, serial) {
+        Planned::Clean => {}
+        Planned::Proto { times: _ } => return refuse(Why::Fault),
+        Planned::Halt => return refuse(Why::Fault),
     }
-    if script.add_fault(lane, serial, kind).is_err() {
+    if script.add_fault(lane, serial, planned).is_err() {
         return Err(Refused::NoMemory);
     }
     Ok(BODY)
@@ -351,6 +396,8 @@ fn read_five(
         control_line(script, place, a, b, unlink_named(c, d))
     } else if is(key, b"requests") {
         requests_line(script, place, a, b, c, d)
+    } else if is(key, b"fault") {
+        attempts_line(script, place, a, b, c, d)
     } else {
         refuse(Why::Word)
     }

@@ -2,17 +2,18 @@
 
 ghost use Rattle.std.specs.Prelude.{◌≡◌, ◌<◌, ◌≤◌, ◌∷◌, ◌++◌, [], None, Some, length, OnOk, OnErr, IsTrue, MatchOption, slice_get, unwrap_or};
 ghost use Rattle.un_frame.specs.Params.{AreInRange};
+ghost use Rattle.un_frame.specs.declared.kinds.Planned.TheVariants.{Clean};
 ghost use Rattle.un_journal.specs.Script.{planned, frames_of, feed_list, frame_count};
 ghost use Rattle.un_script.specs.Parts.{empty_script, no_frames, frame_added, with_frame, state_of, may_come};
 ghost use Rattle.un_script.specs.Ready.{IsReady};
-ghost use Rattle.un_script.specs.Table.{is_sender, is_want, is_planned_serial, MOST_FRAMES, MOST_CONTROLS, MOST_FAULTS};
+ghost use Rattle.un_script.specs.Table.{is_sender, is_want, is_planned_serial, is_fault, MOST_FRAMES, MOST_CONTROLS, MOST_FAULTS};
 
 use crate::plan::Plan;
 use crate::state::{LinkState, state_after};
 use std::alloc::{AllocError, Global};
 use std::marker::Model;
-use un_frame::{Bytes, FaultKind, Lane, Params};
-use un_journal::{Due, Planned};
+use un_frame::{Bytes, Lane, Params, Planned};
+use un_journal::{Due, PlannedFault};
 
 /// The frames of the four senders of a lane.
 #[derive(Drop)]
@@ -83,6 +84,10 @@ fn nth(frames: &[Bytes], index: u64) -> Option<&[u8]>
 /// A script: the parameters of a link, the frames that each sender of a lane has (its feed), the controls and the planned
 /// faults. A lane has four senders, 0 to 3. There are at most 65,536 frames in both lanes together, 256
 /// controls and 1,024 faults.
+///
+/// `add_frame`, `add_control` and `add_fault` fill it, each by one. `params`, `frame`, `control` and `fault` tell what
+/// it says, `frame_count`, `control_count` and `fault_count` how much; `prove_ready` does nothing but state what each
+/// script has.
 #[derive(Drop)]
 pub struct Script {
     params: Params,
@@ -128,7 +133,7 @@ impl Script {
         }
     }
 
-    /// What each script has: its parameters are in their ranges, each frame has bytes, each control can follow the earlier ones and waits for 0 to 65,536 datagrams, each planned fault has a serial of 0 to 65,535, no lane and serial has two faults, and there are no more of each than it may have.
+    /// What each script has: its parameters are in their ranges, each frame has bytes, each control can follow the earlier ones and waits for 0 to 65,536 datagrams, each planned fault has a serial of 0 to 65,535 and isn't `Clean`, no lane and serial has two faults, and there are no more of each than it may have.
     pub fn prove_ready(&self)
         ensures { IsReady self.now }
     {
@@ -217,16 +222,21 @@ impl Script {
         Ok(())
     }
 
-    /// Plans a fault for a transfer (of the serials 0 to 65,535) that has none planned, where there are fewer than 1,024 faults. After
+    /// Plans a fault, which isn't `Clean`, for a transfer (of the serials 0 to 65,535) that has none planned, where there are fewer than 1,024 faults. After
     /// the error, which is want of memory, the script is unchanged.
-    pub fn add_fault(&mut self, lane: Lane, serial: u64, kind: FaultKind) -> Result<(), AllocError>
+    pub fn add_fault(&mut self, lane: Lane, serial: u64, planned: Planned) -> Result<(), AllocError>
         requires serial { IsTrue (is_planned_serial serial) }
         requires room { length self.old.faults < MOST_FAULTS }
-        requires first { planned self.old lane serial ≡ None }
-        ensures ok { OnOk result (self.new ≡ record self.old { faults = self.old.faults ++ record { lane = lane; serial = serial; kind = kind } ∷ [] }) }
+        requires fault { IsTrue (is_fault planned) }
+        requires first { Rattle.un_journal.specs.Script.planned self.old lane serial ≡ Clean }
+        ensures ok { OnOk result (self.new ≡ record self.old { faults = self.old.faults ++ record { lane = lane; serial = serial; planned = planned } ∷ [] }) }
         ensures err { OnErr result (self.new ≡ self.old) }
     {
-        self.faults.add(Planned { lane, serial, kind })?;
+        self.faults.add(PlannedFault {
+            lane,
+            serial,
+            planned,
+        })?;
         Ok(())
     }
 
@@ -247,8 +257,8 @@ impl Script {
         self.controls.get(index as usize).copied()
     }
 
-    /// What the plan has for a transfer, where it has a fault for it.
-    pub fn fault(&self, lane: Lane, serial: u64) -> Option<FaultKind>
+    /// What the plan has for a transfer: `Clean` exactly where it has no fault for it.
+    pub fn fault(&self, lane: Lane, serial: u64) -> Planned
         ensures { result ≡ planned self.now lane serial }
     {
         self.faults.find(lane, serial)

@@ -1,10 +1,10 @@
 //! The words, places and ranges of a script's lines.
 
 ghost use Rattle.std.specs.Prelude.{◌≡◌, ◌<◌, ◌^◌, IsTrue};
-ghost use Rattle.un_script.specs.Table.{control_named, parameter_named, place_of, may_follow, is_allowed, is_filter, is_pool_size, with_number};
+ghost use Rattle.un_script.specs.Table.{control_named, parameter_named, place_of, may_follow, is_allowed, is_filter, is_pool_size, is_times, fault_named, with_number};
 ghost use Rattle.un_script.specs.Reading.{unlink_named};
 
-use un_frame::{Class, Params};
+use un_frame::{Class, Params, Planned};
 use un_journal::Control;
 use un_text::{is, lane_named};
 
@@ -49,6 +49,19 @@ pub fn unlink_named(word: &[u8], lane: &[u8]) -> Option<Control>
     match lane_named(lane) {
         Some(lane) => Some(Control::Unlink { lane }),
         None => None,
+    }
+}
+
+/// The fault of one word: `proto` alone fails one attempt.
+pub fn fault_named(word: &[u8]) -> Option<Planned>
+    ensures { result ≡ Rattle.un_script.specs.Table.fault_named word.now }
+{
+    if is(word, b"halt") {
+        Some(Planned::Halt)
+    } else if is(word, b"proto") {
+        Some(Planned::Proto { times: 1 })
+    } else {
+        None
     }
 }
 
@@ -128,6 +141,13 @@ pub fn is_pool_size(n: u64) -> bool
     ensures { result ≡ Rattle.un_script.specs.Table.is_pool_size n }
 {
     1 <= n && n <= 64
+}
+
+/// Whether so many attempts of a transfer may fail.
+pub fn is_times(n: u64) -> bool
+    ensures { result ≡ Rattle.un_script.specs.Table.is_times n }
+{
+    1 <= n && n <= 4
 }
 
 /// The parameters with another number.

@@ -13,7 +13,7 @@ ghost use Rattle.un_lane.specs.Way.{Adds, lane_lines};
 use crate::path::Path;
 use crate::write::write;
 use un_endpoint::{Carried, Flight, Landed, RxEnd, Taken, TxEnd};
-use un_frame::FaultKind;
+use un_frame::Planned;
 use un_journal::{Answer, Got, Journal, Line};
 
 impl<T: TxEnd + Drop, R: RxEnd + Drop> Path<T, R> {
@@ -57,30 +57,38 @@ impl<T: TxEnd + Drop, R: RxEnd + Drop> Path<T, R> {
         }
     }
 
-    /// Ends the flight that is out, carried: where it was marked it is `cut`, else where a fault is planned it has `failed`, and else it has `landed` and its receive request has arrived. The transmit request is
-    /// done in each case, and the receive request of a transfer that is lost goes home. Its bytes are those of its `made` line.
-    pub fn land(
-        &mut self,
-        journal: &mut Journal,
-        carried: Carried,
-        fault: Option<FaultKind>,
-    ) -> Answer
-        requires ready { Ready (lines_in (land_fault self.old.lane fault (lane_lines self.old journal.old))) self.old journal.old }
+    /// Ends the flight that is out, carried: where it was marked it is `cut`; else where what is planned fails this attempt it is `retried`, queued before all others, or has `failed` for good; else it has `landed`
+    /// and its receive request has arrived. The transmit request is done unless it is queued again, and the receive request of an attempt that is lost goes home. Its bytes are those of its `made` line.
+    pub fn land(&mut self, journal: &mut Journal, carried: Carried, planned: Planned) -> Answer
+        requires ready { Ready (lines_in (land_fault self.old.lane planned (lane_lines self.old journal.old))) self.old journal.old }
         requires out { self.old.bus.flight ≡ Some (record_of carried) }
         requires bytes { made_bytes (lane_lines self.old journal.old) carried.tx.serial ≡ carried.tx.bytes }
-        ensures lines { Adds journal.old journal.new (lines_in (land_fault self.old.lane fault (lane_lines self.old journal.old))) }
-        ensures answer { result ≡ answer_in (land_fault self.old.lane fault (lane_lines self.old journal.old)) }
+        ensures lines { Adds journal.old journal.new (lines_in (land_fault self.old.lane planned (lane_lines self.old journal.old))) }
+        ensures answer { result ≡ answer_in (land_fault self.old.lane planned (lane_lines self.old journal.old)) }
         ensures stands { Stands self.new (lane_lines self.new journal.new) }
         ensures leaves { Leaves self.old self.new }
         ensures flight { self.new.bus.flight ≡ None }
     {
         let serial = carried.serial();
         let lane = self.lane;
-        match self.bus.land(carried, fault) {
+        carried.prove_fits();
+        match self.bus.land(carried, planned) {
             Landed::Arrived { tx, rx } => {
                 write(journal, Line::Landed { lane, serial }, &[]);
                 self.tx.finish(tx);
                 self.rx.arrive(rx);
+            }
+            Landed::Retried { rx, attempt } => {
+                write(
+                    journal,
+                    Line::Retried {
+                        lane,
+                        serial,
+                        attempt,
+                    },
+                    &[],
+                );
+                self.rx.give_back(rx);
             }
             Landed::Failed { tx, rx, kind } => {
                 write(journal, Line::Failed { lane, serial, kind }, &[]);

@@ -1,6 +1,6 @@
 //! What a path tells. No reading takes memory or changes anything.
 
-ghost use Rattle.std.specs.Prelude.{◌≡◌, List, ℕ, length, not};
+ghost use Rattle.std.specs.Prelude.{◌≡◌, ◌≤◌, List, ℕ, length, not};
 ghost use Rattle.un_endpoint.specs.Bus.{flying_serial};
 ghost use Rattle.un_endpoint.specs.EndOutcomes.{with_frame};
 ghost use Rattle.un_journal.specs.Census.{lane_census};
@@ -50,9 +50,9 @@ impl<T: TxEnd + Drop, R: RxEnd + Drop> Path<T, R> {
         (self.tx.home(), self.rx.home())
     }
 
-    /// Whether an offer of a frame of `length` bytes would not answer `Busy`.
+    /// Whether an offer of a frame of `length` bytes, a segment at most, would not answer `Busy`.
     pub fn can_offer(&self, length: u32) -> bool
-        ensures { (g : History) (sender : ℕ) (frame : List ℕ) → Stands self.now g → Rattle.std.specs.Prelude.length frame ≡ length → is_still (accept self.now.tx.params self.now.lane sender (with_frame self.now.tx frame) g) ≡ not result }
+        ensures { (g : History) (sender : ℕ) (frame : List ℕ) → Stands self.now g → Rattle.std.specs.Prelude.length frame ≡ length → length ≤ self.now.tx.params.segment → is_still (accept self.now.tx.params self.now.lane sender (with_frame self.now.tx frame) g) ≡ not result }
     {
         self.tx.can_offer(length)
     }

@@ -1,4 +1,4 @@
-use Rattle.std.proofs.Common.{rules, ℕ, Bool, List, ◌∷◌, [], refl, subst}
+use Rattle.std.proofs.Common.{rules, ℕ, ◌-◌, ◌<◌, ◌≤◌, Bool, List, ◌∷◌, [], refl, subst, arith}
 use Rattle.un_endpoint.specs.EndOutcomes.{with_frame}
 use Rattle.un_journal.specs.declared.actions.Answer.{Answer}
 use Rattle.un_journal.specs.declared.lines.Line.TheVariants.{Took, Made}
@@ -9,6 +9,7 @@ use Rattle.un_lane.specs.Way.{Way, HasRoom, lane_lines}
 use Rattle.un_lane.proofs.Adding.{accepted_small, made_small, room_front, room_rest}
 use Rattle.un_lane.proofs.Building.{builds_after, builds_same, offer_does}
 use Rattle.un_lane.proofs.Closing.{keeps_builds, makes_new}
+use Rattle.un_lane.proofs.Contents.{transfer_least}
 use Rattle.un_lane.proofs.Doing.{answered, does_at, ready_at, wrote}
 use Rattle.un_lane.proofs.Offering.{offer_busy, offer_keeps, offer_makes, keep_stands}
 use Rattle.un_lane.proofs.Sending.{new_away}
@@ -47,6 +48,13 @@ send-requires-clause-away g c =
 
 pub send-requires-clause-count : goal.send-requires-clause-count
 send-requires-clause-count g c = let r = ready_at (outcome_of c.args.sender c.args.frame.now c.args.journal.now) _ _ _ c.self.view_is c.requires.ready in made_small _ c.args.journal.now _ r.stands r.room
+
+pub send-requires-clause-some : goal.send-requires-clause-some
+send-requires-clause-some g c =
+    let whole = c.in-Made.ensures.made.whole in
+    let some = whole.some in
+    let least = transfer_least _ c.in-Made.request.bytes _ whole.reads (omega (arith, some)) in
+    omega (arith, least)
 
 pub overflow_add-self : goal.overflow_add-self
 overflow_add-self g c = let r = ready_at (outcome_of c.args.sender c.args.frame.now c.args.journal.now) _ _ _ c.self.view_is c.requires.ready in let small = accepted_small _ c.args.journal.now _ r.stands r.room in search (rules, small)
