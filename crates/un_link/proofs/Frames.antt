@@ -13,7 +13,7 @@ use Rattle.un_journal.proofs.ForLink.{onto, sound_below, own_past, lane_of}
 use Rattle.un_journal.specs.Lookup.{built_frames, datagrams}
 use Rattle.un_journal.specs.LaneSteps.{Outcome, Writes, Answers, lines_in}
 use Rattle.un_journal.specs.Step.{Work, work}
-use Rattle.un_journal.specs.Fits.{Works, Fits, takes, refuses, waits_once, closes, begins_flight, cuts_queued, lands, fails, cuts_flight, comes_home, opens, gives, posts_one, marks, recalls_one, clears, settles}
+use Rattle.un_journal.specs.Fits.{Works, Fits, takes, refuses, waits_once, closes, begins_flight, cuts_queued, lands, tries_again, fails, cuts_flight, comes_home, opens, gives, posts_one, marks, recalls_one, clears, settles}
 use Rattle.un_journal.proofs.Theorems.{outcome_fits}
 use Rattle.un_link.specs.declared.cursors.Cursors.{Cursors}
 use Rattle.un_link.specs.Keeps.{AreRead}
@@ -47,6 +47,7 @@ calm_fits script h lines w lane (closes l b x n) q p = at script w l lane h _ q 
 calm_fits script h lines w lane (begins_flight l k a idle e m ha x) q p = at script w l lane h _ q (same_lane-refl l) (record { frames = refl; feeds = λ s. refl; covers = λ c. refl })
 calm_fits script h lines w lane (cuts_queued l k c idle e m) q p = at script w l lane h _ q (same_lane-refl l) (record { frames = refl; feeds = λ s. refl; covers = λ c. refl })
 calm_fits script h lines w lane (lands l k f m x) q p = at script w l lane h _ q (same_lane-refl l) (record { frames = refl; feeds = λ s. refl; covers = λ c. refl })
+calm_fits script h lines w lane (tries_again l k f m x) q p = at script w l lane h _ q (same_lane-refl l) (record { frames = refl; feeds = λ s. refl; covers = λ c. refl })
 calm_fits script h lines w lane (fails l k kind f m x) q p = at script w l lane h _ q (same_lane-refl l) (record { frames = refl; feeds = λ s. refl; covers = λ c. refl })
 calm_fits script h lines w lane (cuts_flight l k c f m) q p = at script w l lane h _ q (same_lane-refl l) (record { frames = refl; feeds = λ s. refl; covers = λ c. refl })
 calm_fits script h lines w lane (comes_home l e) q p = at script w l lane h _ q (same_lane-refl l) (record { frames = refl; feeds = λ s. refl; covers = λ c. refl })

@@ -276,6 +276,7 @@ refused_stands way lane sender why g w = record {
   placed = w.placed;
   building = w.building;
   queues = w.queues;
+  tries = w.tries;
   ends = w.ends;
   counts = w.counts;
   texts = w.texts;
@@ -327,6 +328,12 @@ taken_length params lane frame v = go (nat_lt (length frame) 14) (nat_lt params.
     go true b e w = absurd (cc)
     go false true e w = absurd (cc)
     go false false e w = lt_no (length frame) params.segment e
+
+pub taken_low : (way : Way) (params : Params) (lane : Lane) (frame : List ℕ) (size : ℕ) → way.tx.params ≡ params → length frame ≡ size → verdict_of params lane frame ≡ Take → size ≤ way.tx.params.segment
+taken_low way params lane frame size same long v =
+    let most = taken_length params lane frame v in
+    let segment = ap (λ (p : Params). p.segment) same in
+    omega (arith, most, segment, long)
 
 -- whether the offer of a good frame would write lines
 pub take_still : (script : Script) (phase : Phase) (way : Way) (h : History) (sender : ℕ) (frame : Frame) → Keeps script phase way (past way.lane h) → phase ≡ phase_of script h → works phase ≡ true

@@ -63,6 +63,7 @@ settled_stands way g a b c d w = record {
     posted = w.queues.posted;
     grounded = w.queues.grounded;
   };
+  tries = record { tried = w.tries.tried; deferred_untried = w.tries.deferred_untried; unmade_untried = w.tries.unmade_untried };
   ends = w.ends;
   counts = w.counts;
   texts = w.texts;

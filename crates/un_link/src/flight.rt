@@ -89,7 +89,7 @@ impl<T: TxEnd + Drop, R: RxEnd + Drop> Half<T, R> {
         ensures { BringsBack shared.old shared.new self.old self.new }
     {
         let LinkCarried { lane, carried } = flight;
-        let fault = shared.script.fault(lane, carried.serial());
-        self.path.land(&mut shared.journal, carried, fault);
+        let planned = shared.script.fault(lane, carried.serial());
+        self.path.land(&mut shared.journal, carried, planned);
     }
 }

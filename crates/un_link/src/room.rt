@@ -12,7 +12,7 @@ use un_script::Script;
 /// The bytes that are reserved for each frame beside twice its length.
 const RESERVED_BYTES: u64 = 192;
 
-/// How many lines a history of the script may have: 13 for each frame; of each receive request one, and two for each control; 4 for each control.
+/// How many lines a history of the script may have: 22 for each frame, nine of them for the three times that its transfer may be tried again; of each receive request one, and two for each control; 4 for each control.
 pub(crate) fn lines_of(script: &Script) -> u64
     ensures { result ≡ line_bound script.now }
 {
@@ -20,7 +20,7 @@ pub(crate) fn lines_of(script: &Script) -> u64
     let params = script.params();
     let frames = u64::from(script.frame_count());
     let controls = u64::from(script.control_count());
-    13 * frames + (2 * controls + 1) * u64::from(params.rx_out + params.rx_in) + 4 * controls
+    22 * frames + (2 * controls + 1) * u64::from(params.rx_out + params.rx_in) + 4 * controls
 }
 
 /// How many bytes those lines may carry; none where no memory could hold them.

@@ -5,9 +5,9 @@ use Rattle.hex.specs.Hex.{encode_with}
 use Rattle.un_frame.specs.declared.params.Lane.{Lane}
 use Rattle.un_frame.specs.declared.params.Lane.TheVariants.{Outward, Inward}
 use Rattle.un_frame.specs.declared.params.Class.{Class}
-use Rattle.un_frame.specs.declared.kinds.FaultKind.{FaultKind}
+use Rattle.un_frame.specs.declared.kinds.Planned.{Planned}
 use Rattle.un_frame.specs.Parts.{datagram_of}
-use Rattle.un_journal.specs.declared.controls.Planned.{Planned}
+use Rattle.un_journal.specs.declared.controls.PlannedFault.{PlannedFault}
 use Rattle.un_journal.specs.Script.{Script, Frame}
 use Rattle.un_journal.specs.History.{past}
 use Rattle.un_journal.specs.Drain.{drain}
@@ -18,7 +18,7 @@ abbrev frame_of : ℕ → Frame
 frame_of n = take n ((2 ∷ 0 ∷ 0 ∷ 0 ∷ 0 ∷ 2 ∷ 2 ∷ 0 ∷ 0 ∷ 0 ∷ 0 ∷ 1 ∷ 8 ∷ 0 ∷ []) ++ replicate (n - 14) 0)
 
 -- ECM with one request in each pool, two outward senders and a fault plan
-abbrev script_of : List Frame → List Frame → List Planned → Script
+abbrev script_of : List Frame → List Frame → List PlannedFault → Script
 script_of first second faults = record {
   params = record {
     class = Class.Ecm;
@@ -70,9 +70,18 @@ unfolding item offered fates rest lane_line digits
 two_senders = refl
 
 -- a failed transfer is neither delivered nor are its packets counted
-one_failed : line_after (script_of (frame_of 60 ∷ frame_of 60 ∷ []) [] (record { lane = Outward; serial = 0; kind = FaultKind.Halt } ∷ [])) Outward ≡ codes "lane out taken 2 short 0 long 0 filtered 0 given 1 failed 1 cut 0 dropped 0 left 0 feed 0 transfers 2 packets 1\n"
+one_failed : line_after (script_of (frame_of 60 ∷ frame_of 60 ∷ []) [] (record { lane = Outward; serial = 0; planned = Planned.Halt } ∷ [])) Outward ≡ codes "lane out taken 2 short 0 long 0 filtered 0 given 1 failed 1 cut 0 dropped 0 left 0 feed 0 transfers 2 packets 1\n"
 unfolding item offered fates rest lane_line digits datagram_of
 one_failed = refl
+
+-- a transfer that is tried again is one transfer, and hasn't failed while it is
+tried_again : line_after (script_of (frame_of 60 ∷ []) [] (record { lane = Outward; serial = 0; planned = Planned.Proto 2 } ∷ [])) Outward ≡ codes "lane out taken 1 short 0 long 0 filtered 0 given 1 failed 0 cut 0 dropped 0 left 0 feed 0 transfers 1 packets 1\n"
+unfolding item offered fates rest lane_line digits datagram_of
+tried_again = refl
+
+given_up : line_after (script_of (frame_of 60 ∷ []) [] (record { lane = Outward; serial = 0; planned = Planned.Proto 4 } ∷ [])) Outward ≡ codes "lane out taken 1 short 0 long 0 filtered 0 given 0 failed 1 cut 0 dropped 0 left 0 feed 0 transfers 1 packets 0\n"
+unfolding item offered fates rest lane_line digits datagram_of
+given_up = refl
 
 -- a lane's line and its delivered datagrams
 delivered_frame : lane_part (script_of (frame_of 14 ∷ []) [] []) Outward (counts 512 (past Outward (drain (script_of (frame_of 14 ∷ []) [] []) []))) (drain (script_of (frame_of 14 ∷ []) [] []) [])

@@ -13,7 +13,7 @@ use Rattle.un_report.specs.declared.tally.Tally.{Tally}
 use Rattle.un_report.specs.declared.lane_count.LaneCount.{LaneCount}
 use Rattle.un_report.specs.Counts.{is_short, is_long, is_filtered, counts}
 
--- a line that ends a transfer
+-- a line that ends a transfer; one that is tried again hasn't ended
 abbrev pub is_end : Line → Bool
 is_end (Landed l k) = true
 is_end (Failed l k kind) = true

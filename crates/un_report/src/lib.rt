@@ -13,8 +13,6 @@ mod lines;
 mod setup;
 mod survey;
 mod tally;
-#[cfg(test)]
-mod tests;
 mod writer;
 
 pub use survey::{Survey, go_over};

@@ -116,7 +116,7 @@ fn is_filtered(why: Verdict) -> bool
     }
 }
 
-/// Whether a line ends a transfer.
+/// Whether a line ends a transfer. One that is tried again hasn't ended.
 pub fn is_end(line: Line) -> bool
     ensures { result ≡ Rattle.un_report.specs.Steps.is_end line }
 {

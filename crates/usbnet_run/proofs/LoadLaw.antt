@@ -6,19 +6,18 @@ use Rattle.std.specs.List.{range_with_len}
 use Rattle.un_frame.specs.declared.params.Class.TheVariants.{Ncm16}
 use Rattle.un_frame.specs.declared.params.Lane.{Lane}
 use Rattle.un_frame.specs.declared.params.Lane.TheVariants.{Outward, Inward}
-use Rattle.un_frame.specs.declared.kinds.FaultKind.{FaultKind}
 use Rattle.un_frame.specs.declared.kinds.Verdict.{Verdict}
 use Rattle.un_frame.specs.declared.kinds.Verdict.TheVariants.{Take}
 use Rattle.un_frame.specs.Verdict.{verdict_of}
 use Rattle.un_journal.specs.declared.lines.Line.TheVariants.{Took, Failed, Cut, Dropped}
 use Rattle.un_journal.specs.declared.controls.Due.{Due}
-use Rattle.un_journal.specs.Script.{Script, Frame, frames_of, planned, frame_count}
-use Rattle.un_journal.specs.History.{History, past, concerns, taken, given, row_from}
+use Rattle.un_journal.specs.Script.{Script, Frame, frames_of, frame_count}
+use Rattle.un_journal.specs.History.{Entry, History, past, concerns, taken, given, row_from}
 use Rattle.un_journal.specs.Lookup.{feed_head}
-use Rattle.un_journal.specs.Loss.{LosesNothing, is_take, accepted, good_frames}
+use Rattle.un_journal.specs.Loss.{LosesNothing, is_take, loses, accepted, good_frames}
 use Rattle.un_journal.specs.Fits.{IsDone}
 use Rattle.un_journal.specs.Rules.{AllLane}
-use Rattle.un_journal.proofs.Theorems.{lane_ruled, legal_licensed, Whole, nothing_lost, have_pools, legal_ruled}
+use Rattle.un_journal.proofs.Theorems.{lane_ruled, legal_licensed, Whole, nothing_lost, plain_line, have_pools, legal_ruled}
 use Rattle.un_journal.specs.Licence.{AllLicensed}
 use Rattle.un_report.specs.Counts.{failed_datagrams, cut_datagrams, dropped_datagrams}
 use Rattle.un_script.specs.Load.{load_script, load_frame, load_feed, load_lane, load_sender, load_body, is_from, ADDRESSES}
@@ -31,7 +30,7 @@ use Rattle.usbnet_run.specs.Loads.{IsLossless}
 
 loses_nothing : (count : ℕ) → LosesNothing (load_script count)
 loses_nothing count = record {
-  no_fault = refl;
+  no_fault = λ lane k. tt;
   only_sleeps = λ c due e. absurd (no_control c due e);
   ends_awake = λ due some e f. omega (arith, some);
 }
@@ -44,22 +43,17 @@ record NoneLost (g : History) : Type 0 where
   none_cut : cut_datagrams g ≡ 0
   none_dropped : dropped_datagrams g ≡ 0
 
-no_due : (c : ℕ) (due : Due) → slice_get [] c ≡ Some due → ⊥
-no_due c due e = cc
-
-no_plan : (count : ℕ) (l : Lane) (k : ℕ) (kind : FaultKind) → planned (load_script count) l k ≡ Some kind → ⊥
-no_plan count l k kind e = cc
-
+-- a load has no fault and no control, so none of its lines loses a datagram
 none_lost : (count : ℕ) (older : History) → AllLicensed (load_script count) older → (l : Lane) → NoneLost (filter (concerns l) older)
 none_lost count [] all l = record { none_failed = refl; none_cut = refl; none_dropped = refl }
-none_lost count ((Failed l' j kind, bytes) ∷ older) all l = absurd (no_plan count l' j kind all.0.is_planned)
-none_lost count ((Cut l' j c, bytes) ∷ older) all l = absurd (no_due c all.0.due all.0.is_control)
-none_lost count ((Dropped l' a b c, bytes) ∷ older) all l = absurd (no_due c all.0.due all.0.is_control)
-none_lost count (e ∷ older) all l = go (concerns l e) (none_lost count older all.1 l)
+none_lost count (e ∷ older) all l = go (concerns l e) e (plain_line (load_script count) older e refl refl all.0) (none_lost count older all.1 l)
   where
-    go : (b : Bool) → NoneLost (filter (concerns l) older) → NoneLost (if b then (e ∷ filter (concerns l) older) else filter (concerns l) older)
-    go true r = record { none_failed = r.none_failed; none_cut = r.none_cut; none_dropped = r.none_dropped }
-    go false r = r
+    go : (b : Bool) (e : Entry) → loses e.0 ≡ false → NoneLost (filter (concerns l) older) → NoneLost (if b then (e ∷ filter (concerns l) older) else filter (concerns l) older)
+    go false e kept r = r
+    go true (Failed l' j kind, bytes) kept r = absurd (cc)
+    go true (Cut l' j c, bytes) kept r = absurd (cc)
+    go true (Dropped l' a b c, bytes) kept r = absurd (cc)
+    go true (e, bytes) kept r = record { none_failed = r.none_failed; none_cut = r.none_cut; none_dropped = r.none_dropped }
 
 -- ALL IS ACCEPTED
 

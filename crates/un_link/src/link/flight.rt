@@ -31,7 +31,7 @@ impl<A: TxEnd + Drop, B: RxEnd + Drop, C: TxEnd + Drop, D: RxEnd + Drop> LinkOve
         }
     }
 
-    /// Lands a flight that is out of this link, carried: it is cut where it was marked, fails where a fault is planned for it, and else has landed. The answer is `Did`.
+    /// Lands a flight that is out of this link, carried: it is cut where it was marked; where a fault is planned for it, it is queued again before all others or fails, as the plan says; and else it has landed. The answer is `Did`.
     pub fn land_flight(&mut self, carried: LinkCarried) -> Answer
         requires { 0 < times (flight_of carried) (flights_of self.old) }
         ensures answer { result ≡ Did }

@@ -16,7 +16,7 @@ land-requires-clause-ready g c =
     let there : path_flights old shared.journal ≡ flight_of f ∷ [] = subst (λ (f : LaneTrip). path_flights old shared.journal ≡ flight_of f ∷ []) (sym c.flight.view_is) c.requires.out in
     let at : old.lane ≡ f.lane = subst (λ (f : LaneTrip). old.lane ≡ f.lane) (sym c.flight.view_is) c.requires.lane in
     let out = out_parts old.lane (past old.lane shared.journal.history) f old.bus.flight there in
-    let fault = c.fault-fault.ensures ∙ (ap (planned shared.script f.lane) c.serial.ensures ∙ ap (λ l. planned shared.script l f.trip.tx.serial) (sym at)) in
+    let fault = c.fault-planned.ensures ∙ (ap (planned shared.script f.lane) c.serial.ensures ∙ ap (λ l. planned shared.script l f.trip.tx.serial) (sym at)) in
     let same = ap (λ o. land_fault old.lane o (past old.lane shared.journal.history)) fault ∙ sym (land_is shared.script shared.phase old shared.journal.history f c.requires.ready.kept.keeps out.0) in
     plain_ready (Work.Land old.lane) _ shared c.args.self.now c.requires.ready same
 
@@ -29,7 +29,7 @@ returns g c =
     let there : path_flights old shared.journal ≡ flight_of f ∷ [] = subst (λ (f : LaneTrip). path_flights old shared.journal ≡ flight_of f ∷ []) (sym c.flight.view_is) c.requires.out in
     let at : old.lane ≡ f.lane = subst (λ (f : LaneTrip). old.lane ≡ f.lane) (sym c.flight.view_is) c.requires.lane in
     let out = out_parts old.lane (past old.lane shared.journal.history) f old.bus.flight there in
-    let fault = c.fault-fault.ensures ∙ (ap (planned shared.script f.lane) c.serial.ensures ∙ ap (λ l. planned shared.script l f.trip.tx.serial) (sym at)) in
+    let fault = c.fault-planned.ensures ∙ (ap (planned shared.script f.lane) c.serial.ensures ∙ ap (λ l. planned shared.script l f.trip.tx.serial) (sym at)) in
     let same = ap (λ o. land_fault old.lane o (past old.lane shared.journal.history)) fault ∙ sym (land_is shared.script shared.phase old shared.journal.history f c.requires.ready.kept.keeps out.0) in
     record {
       goes = plain_goes (Work.Land old.lane) _ shared c.args.self.now c.land.new.self c.land.new.journal refl refl c.requires.ready.kept same d.lines d.stands d.leaves;
