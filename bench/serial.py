@@ -17,7 +17,7 @@ import tempfile
 import time
 
 TOP = os.path.dirname(os.path.dirname(os.path.abspath(__file__)))
-BINARY = os.path.join(TOP, "crates", "usbnet_run", "out", "usbnet_run")
+BINARY = os.path.join(TOP, "crates", "usbnet", "out", "usbnet")
 HEADER = "0200000000020200000000010800"
 SCRIPTS = [
     ("1,024 frames of 60 bytes", 1024, 60),
