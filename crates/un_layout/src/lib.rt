@@ -1,8 +1,15 @@
 //! Places and sizes in an NCM block (NCM 1.0, 3.2 and 3.3).
+//!
+//! ```text
+//! let at = place(12, 4, 0);                           // 14: behind a header of 12 bytes, as (14 + 14) % 4 == 0
+//! let end = at + 60;                                  // where a frame of 60 bytes ends
+//! let table = align(end, 4);                          // 76: where the block's table begins
+//! let size = closed_size(end, 1, 8, 4, 4);            // 92: its head of 8 bytes and two pairs of 4, one of them null
+//! ```
+//!
+//! The calls know numbers alone: indices are bytes from the block's beginning. What `place` and `align` answer is the
+//! least index that will do, less than a divisor or an alignment away. Each answer has to be below 2^32.
 #![tactic(auto)]
-
-#[cfg(test)]
-mod tests;
 
 ghost use Rattle.std.specs.Prelude.{◌≡◌, ◌+◌, ◌*◌, ◌<◌, ◌≤◌, ◌^◌};
 ghost use Rattle.un_frame.specs.Ntb.{Format};

@@ -1,8 +1,18 @@
-//! Blocks of NCM with fields of 16 bits (NTB16; NCM 1.0, 3.2.1 and 3.3.1). The logic is un_ntb's, at indices of 2 bytes.
+//! Blocks of NCM with fields of 16 bits (NTB16; NCM 1.0, 3.2.1 and 3.3.1). The logic is un_ntb's, at
+//! indices of 2 bytes.
+//!
+//! ```text
+//! let mut writer = Writer::make(alloc, 32, 2048, 4, 0, 4)?;   // 32 datagrams and 2,048 bytes at most
+//! writer.start(&mut request);                                 // an empty request with room for 2,048 bytes
+//! writer.append(&mut request, &frame);                        // of 60 bytes: writer.fits(60)
+//! writer.close(&mut request, serial);                         // the block is whole
+//! let mut parts = read(request.bytes())?;                     // or the first fault with its place
+//! let first = parts.next();                                   // Some(frame), lent from the request's bytes
+//! ```
+//!
+//! `Writer` and `Parts` are those of un_ntb with their width, and so are their calls; `read` reads a transfer as one of
+//! the class `Ncm16`.
 #![tactic(auto)]
-
-#[cfg(test)]
-mod tests;
 
 ghost use Rattle.std.specs.Prelude.{◌≡◌, IfOk};
 ghost use Rattle.un_frame.specs.Fault.{fault_in};

@@ -42,7 +42,7 @@ impl Model for Exchanges {
 
 impl Exchanges {
     /// Keeps these exchanges.
-    pub fn make(items: Vec<Exchange>) -> Exchanges
+    pub(crate) fn make(items: Vec<Exchange>) -> Exchanges
         ensures { result ≡ items.items }
     {
         Exchanges { items }
@@ -72,7 +72,7 @@ impl Model for Notes {
 
 impl Notes {
     /// Keeps these notifications.
-    pub fn make(items: Vec<Bytes>) -> Notes
+    pub(crate) fn make(items: Vec<Bytes>) -> Notes
         ensures { result ≡ items.items }
     {
         Notes { items }

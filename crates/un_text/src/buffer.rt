@@ -48,14 +48,14 @@ impl Buffer {
     }
 
     /// Takes all bytes out.
-    pub fn clear(&mut self)
+    pub(crate) fn clear(&mut self)
         ensures { self.new ≡ [] }
     {
         self.used = 0;
     }
 
     /// How many bytes more it can take.
-    pub fn room(&self) -> usize
+    pub(crate) fn room(&self) -> usize
         ensures { result + length self.now ≡ 8192 }
     {
         8192 - self.used

@@ -1,4 +1,18 @@
 //! A small machine, a bounded queue whose items fly, with which the turn and its workers are run at a concrete type.
+//!
+//! ```text
+//! let mut queue = Queue::make(alloc, 5)?;                             // five items may be offered
+//! queue.step(Action::Offer { lane: Lane::Outward, sender: 0 });       // Did, and Nothing after five
+//! if let Got::Part(part) = queue.take_part(Lane::Outward) {           // the item flies
+//!     let done = Queue::carry(part);                                  // nobody needs the queue for this
+//!     queue.land_part(done);                                          // and it has landed
+//! }
+//! let (turn, seat) = Turn::make(alloc, queue, 2)?;                    // behind a lock, as any machine
+//! ```
+//!
+//! A `Queue` has `make` and `journal` of its own; all else it does as a `Machine` of un_journal. Its items go outward,
+//! one at a time; every action but such an offer answers `Nothing`. It is finished once as many items have landed as it
+//! may have. A [`QueuePart`] and a [`QueueDone`] can't be dropped: what flies is landed.
 #![tactic(auto)]
 
 ghost use Rattle.std.specs.Prelude.{◌≡◌, ◌+◌, ◌*◌, ◌<◌, ◌≤◌, ◌++◌, ℕ, [], IfOk};
