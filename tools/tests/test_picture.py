@@ -10,7 +10,7 @@ from usbnet_tools.colours import colour, hue
 from usbnet_tools.picture import picture
 from usbnet_tools.script import Script, read_script
 from usbnet_tools.trace import Line, TraceError, read_line, read_output
-from usbnet_tools.ways import POOLS, History
+from usbnet_tools.ways import BUS, POOLS, RECEIVING_APP, RECEIVING_END, SENDING_END, History
 
 SVG = "{http://www.w3.org/2000/svg}"
 EVERY = (0, 10**9)
@@ -53,6 +53,20 @@ class Ways(unittest.TestCase):
         self.assertEqual(told["out", 5], "datagram 5 out, of sender 1: transfer 2; lost at line 37, cut by unplug")
         self.assertEqual(len(told), 7)
 
+    def test_a_transfer_that_is_tried_again_waits_again(self) -> None:
+        history = History(lines_of("tried-again"), script_of("tried-again"))
+        told = {(way.lane, way.number): way.told for way in history.ways.values()}
+        self.assertEqual(told["out", 0], "datagram 0 out, of sender 0: transfer 0, 3 flights; delivered")
+        self.assertEqual(told["in", 0], "datagram 0 in, of sender 0: transfer 0, 4 flights; lost at line 34, failed: proto")
+        stations = [move.station for move in history.ways["out", 0].moves]
+        self.assertEqual(stations, [SENDING_END, BUS, SENDING_END, BUS, SENDING_END, BUS, RECEIVING_END, RECEIVING_APP])
+        away = dict(history.homes.away)
+        for line in lines_of("tried-again"):
+            if line.kind == "retried":
+                pool = POOLS.index(f"rx {line.lane}")
+                self.assertEqual((away[line.number - 1][pool], away[line.number][pool]), (1, 0), line.text)
+        self.assertEqual(history.homes.away[-1][1], (0, 1, 0, 1))
+
     def test_causes_have_their_index_without_a_script(self) -> None:
         causes = {way.loss[1] for way in History(lines_of("busy"), None).ways.values() if way.loss}
         self.assertEqual(causes, {"failed: halt", "cut by control 2", "cut by control 3", "dropped by control 6"})
@@ -87,6 +101,16 @@ class Picture(common.InRoom):
             self.assertIn(text, told)
         for text in ("suspend", "resume", "unlink out", "up, forced", "unplug", "short", "Requests at home", "outward, receive (gadget)", "of 3"):
             self.assertIn(text, told)
+
+    def test_a_way_goes_back_on_its_own_track(self) -> None:
+        part = drawn(lines_of("tried-again"), script_of("tried-again"))
+        self.assertEqual([text for text in words(part) if text.startswith("attempt ")], [f"attempt {number} failed" for number in (1, 1, 2, 2, 3)])
+        corners = [float(x) for x in re.findall(r"[ML]([\d.]+) ", ways(part)[0].get("d"))]
+        app, end, bus, far, last = corners[0], corners[1], corners[3], corners[13], corners[15]
+        self.assertEqual(corners, [app, end, end, bus, bus, end, end, bus, bus, end, end, bus, bus, far, far, last])
+        self.assertTrue(app < end < bus < far < last, corners)
+        for line in lines_of("tried-again"):
+            drawn(lines_of("tried-again"), None, (line.number, line.number + 1))
 
     def test_a_range_of_lines(self) -> None:
         part = drawn(lines_of("busy"), None, (40, 60))

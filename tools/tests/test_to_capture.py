@@ -38,6 +38,31 @@ class ToCapture(common.InRoom):
         self.assertEqual(ended, [(10, 1, ""), (12, 0x81, ""), (31, 1, "EPIPE -32"), (36, 0x81, "ECONNRESET -104"), (37, 1, "ECONNRESET -104")])
         self.assertEqual({record.key for record in bulk if record.is_completion}, {record.key for record in bulk if not record.is_completion})
 
+    def test_an_inward_request_has_room_for_its_transfer(self) -> None:
+        """EEM's gadget packs frames, and no report says how many."""
+        transfer = (b"\x00" * 4000).hex().encode()
+        given = b"trace\nposted in\nmade in 0 0 2 " + transfer + b"\nflying in 0\nlanded in 0\nend\n"
+        done = common.run_tool("to-capture", "-o", self.room / "made.pcapng", given=given)
+        self.assertEqual((done.returncode, done.stderr), (0, b""))
+        with open(self.room / "made.pcapng", "rb") as stream:
+            submitted, completed = [read_record(packet) for packet in read_capture(stream, self.fail)]
+        self.assertEqual((submitted.is_completion, completed.is_completion, completed.length), (False, True, 4000))
+        self.assertGreaterEqual(submitted.length, completed.length)
+
+    def test_an_attempt_that_failed_is_completed_and_the_transfer_submitted_anew(self) -> None:
+        records = [read_record(packet) for packet in self.made("tried-again") if packet.interface.name == "usb"]
+        bulk = [(record.time // 10**9, record.endpoint, record.is_completion, record.failure) for record in records if record.kind is Kind.BULK]
+        outward = [(time, "completed" if ends else "submitted", failure) for time, endpoint, ends, failure in bulk if endpoint == 1]
+        self.assertEqual(outward[:6], [
+            (5, "submitted", ""), (9, "completed", "EPROTO -71"), (9, "submitted", ""),
+            (15, "submitted", ""), (17, "completed", "EPROTO -71"), (17, "submitted", ""),
+        ])
+        ended = [(time, endpoint, failure) for time, endpoint, ends, failure in bulk if ends]
+        self.assertEqual(ended[2:], [
+            (17, 1, "EPROTO -71"), (19, 0x81, "EPROTO -71"), (23, 1, ""), (25, 0x81, "EPROTO -71"), (32, 1, ""), (34, 0x81, "EPROTO -71"),
+            (44, 0x81, ""),
+        ])
+
     def test_back_and_forth(self) -> None:
         for name, status in (("sleep-and-unplug", 1), ("three-pings", 0)):
             given = [packet.data for packet in self.made(name) if packet.interface.name != "usb"]

@@ -22,7 +22,7 @@ HEADER_EVERY = 40
 
 @dataclass
 class Track:
-    """A datagram's stay at a station, between two lines of the trace."""
+    """A datagram's stay at a station, between two lines of the trace. Where it comes back, its track was kept for it."""
 
     way: Way
     station: int
@@ -98,7 +98,8 @@ class Layout:
                 last = following.line if following else way.last_line
                 last = self.last + 1 if last is None else last
                 if move.station != RECEIVING_APP and move.line <= self.last and last >= self.first:
-                    self.tracks[way.lane, way.number, move.station] = Track(way, move.station, move.line, last)
+                    track = Track(way, move.station, move.line, last)
+                    self.tracks.setdefault((way.lane, way.number, move.station), track).last = last
         for lane in LANES:
             for station in (SENDING_END, BUS, RECEIVING_END):
                 stays = [track for track in self.tracks.values() if track.way.lane == lane and track.station == station]

@@ -99,7 +99,7 @@ class Drawing:
         title = svg.element("title", escape(way.told))
         self.parts.append(svg.element("path", title, d=path, kind=f"way s{index}"))
         direction = 1 if way.lane == "out" else -1
-        self.parts += [svg.arrow_head(x, y, direction, f"f{index}") for x, y in heads]
+        self.parts += [svg.arrow_head(x, y, to, f"f{index}") for x, y, to in heads]
         if layout.shows(way.moves[0].line):
             x, y = places[0]
             self.words.append(svg.text(x - 6 * direction, y + 4, str(way.number), f"number halo f{index}", "end" if direction > 0 else "start"))
@@ -107,11 +107,11 @@ class Drawing:
             x, y = places[-1]
             self.words.append(svg.text(x + 6 * direction, y + 4, str(way.number), f"number halo f{index}", "start" if direction > 0 else "end"))
 
-    def _places(self, way: Way) -> tuple[list[tuple[float, float]], list[tuple[float, float]]]:
-        """The corners of a way, and those at which it reaches a station."""
+    def _places(self, way: Way) -> tuple[list[tuple[float, float]], list[tuple[float, float, int]]]:
+        """The corners of a way, and those at which it reaches a station, with the direction in which it does."""
         layout = self.layout
         places: list[tuple[float, float]] = []
-        heads: list[tuple[float, float]] = []
+        heads: list[tuple[float, float, int]] = []
         station = SENDING_APP
         for move in way.moves:
             if move.line > layout.last:
@@ -121,7 +121,7 @@ class Drawing:
                 if not places and station != SENDING_APP:
                     places.append((layout.track(way, station), layout.top))
                 places += [(layout.track(way, station), y), (layout.track(way, move.station), y)]
-                heads.append(places[-1])
+                heads.append((*places[-1], 1 if places[-1][0] > places[-2][0] else -1))
             station = move.station
         if station != RECEIVING_APP:
             x = layout.track(way, station)
@@ -172,6 +172,9 @@ class Drawing:
         self.parts += [svg.cross(x, y, "cross", 3.5) for x, y in places]
         x = (max if direction > 0 else min)(self.layout.column(line.lane, ways[0].station), *(x for x, _ in places)) + 10 * direction
         self.words.append(svg.text(x, self.layout.rows[line.number] + 4, ways[0].loss[1], "lost halo", "start" if direction > 0 else "end"))
+
+    def retried(self, line: Line) -> None:
+        self._beside(line, BUS, f"attempt {line['attempt']} failed", "lost halo")
 
     def marked(self, line: Line) -> None:
         ways = self.history.of_transfer(line)
@@ -234,8 +237,8 @@ class Drawing:
 CALLS: dict[str, Callable[[Drawing, Line], None]] = {
     "took": Drawing.nothing, "flying": Drawing.nothing, "landed": Drawing.nothing, "gave": Drawing.nothing, "refused": Drawing.refused,
     "made": Drawing.made, "waited": Drawing.waited, "posted": Drawing.posted, "failed": Drawing.lost, "cut": Drawing.lost,
-    "dropped": Drawing.lost, "marked": Drawing.marked, "txhome": Drawing.txhome, "opened": Drawing.opened, "recalled": Drawing.recalled,
-    "cleared": Drawing.cleared, "did": Drawing.did, "settled": Drawing.settled,
+    "dropped": Drawing.lost, "retried": Drawing.retried, "marked": Drawing.marked, "txhome": Drawing.txhome, "opened": Drawing.opened,
+    "recalled": Drawing.recalled, "cleared": Drawing.cleared, "did": Drawing.did, "settled": Drawing.settled,
 }
 
 

@@ -12,7 +12,7 @@ from typing import Iterable
 
 TOP = Path(__file__).resolve().parents[2]
 LAUNCHER = TOP / "usbnet"
-BINARY = TOP / "crates" / "usbnet_run" / "out" / "usbnet_run"
+BINARY = TOP / "crates" / "usbnet" / "out" / "usbnet"
 PROVED = "proved and built by"
 # each run without a build reads all sources anew: so many are bearable
 MOST_UNBUILT = 8

@@ -36,8 +36,9 @@ EPILOG = """\
 The file has three interfaces: `out` and `in` with the delivered frames, and `usb` with the transfers, as usbmon would show them at the
 host. Its times are the trace's line numbers, in seconds, and each packet has its line as a comment. An outward transfer is submitted
 where it was made (also where a sleeping link defers it) and completed where it landed (status 0), failed (proto -71, halt -32) or was
-cut (-104); an inward one is the completion of the request that `posted in` submitted. An inward transfer that is cut before it flies
-isn't seen at the host. Where the report follows the trace, its set-up stands at time 0, so that the descriptors are there.
+cut (-104); where it is tried again it is completed (-71) and submitted anew. An inward one is the completion of the request that
+`posted in` submitted. An inward transfer that is cut while it doesn't fly isn't seen at the host. Where the report follows the trace, its
+set-up stands at time 0, so that the descriptors are there.
 """
 
 
@@ -72,6 +73,8 @@ class Usb:
 
     writer: Writer
     report: Report
+    longest_inward: int = 0
+    """The bytes of the longest inward transfer: the report doesn't say how many EEM's gadget packs into one."""
     out_address: int = 0x02
     in_address: int = 0x81
     requests: int = 0
@@ -99,12 +102,11 @@ class Usb:
     def made_transfer(self, line: Line) -> None:
         self.made[line.lane, line["serial"]] = line["bytes"]
         if line.lane == "out":
-            data = line["bytes"]
-            self.submitted[line["serial"]] = self._submit(line.number, line.text, Kind.BULK, self.out_address, len(data), data)
+            self._submit_outward(line)
 
     def posted_request(self, line: Line) -> None:
         if line.lane == "in":
-            largest = max(self.report.segment + EEM_OVERHEAD, self.report.block)
+            largest = max(self.report.segment + EEM_OVERHEAD, self.report.block, self.longest_inward)
             # one packet more, so that what fills its packets has room for the empty one
             length = (largest // self.report.packet + 1) * self.report.packet
             self.posted.append(self._submit(line.number, line.text, Kind.BULK, self.in_address, length))
@@ -118,8 +120,9 @@ class Usb:
             self.flying[line["serial"]] = self._first_posted(line)
 
     def ended(self, line: Line) -> None:
-        """Writes the completion of a transfer that landed, failed or was cut."""
-        status = {"landed": ARRIVED, "failed": FAULTS.get(line.fields.get("fault"), PROTOCOL), "cut": WITHDRAWN}[line.kind]
+        """Writes the completion of a transfer that landed, failed, is tried again or was cut."""
+        fault = FAULTS.get(line.fields.get("fault"), PROTOCOL)
+        status = {"landed": ARRIVED, "failed": fault, "retried": PROTOCOL, "cut": WITHDRAWN}[line.kind]
         data = self._bytes_of(line) if status == ARRIVED else b""
         if line.lane == "out":
             request = self.submitted.pop(line["serial"], None)
@@ -128,6 +131,16 @@ class Usb:
             self._write(line.number, line.text, Event(True, request, Kind.BULK, self.out_address, status, len(data)))
         elif line["serial"] in self.flying:
             self._end_inward(line, self.flying.pop(line["serial"]), status, data)
+
+    def tried_again(self, line: Line) -> None:
+        """Writes the completion of an attempt that failed, and submits an outward transfer anew."""
+        self.ended(line)
+        if line.lane == "out":
+            self._submit_outward(line)
+
+    def _submit_outward(self, line: Line) -> None:
+        data = self._bytes_of(line)
+        self.submitted[line["serial"]] = self._submit(line.number, line.text, Kind.BULK, self.out_address, len(data), data)
 
     def _end_inward(self, line: Line, request: int, status: int, data: bytes = b"") -> None:
         self._write(line.number, line.text, Event(True, request, Kind.BULK, self.in_address, status, len(data), data))
@@ -167,11 +180,12 @@ def arguments() -> argparse.ArgumentParser:
 
 def write_capture(output: Output, writer: Writer) -> None:
     """Writes the packets of a trace, and before them the set-up of its report."""
-    usb = Usb(writer, output.report or Report())
+    longest = max((len(line["bytes"]) for line in output.lines if line.kind == "made" and line.lane == "in"), default=0)
+    usb = Usb(writer, output.report or Report(), longest)
     usb.set_up()
     calls: dict[str, Callable[[Line], None]] = {
         "made": usb.made_transfer, "posted": usb.posted_request, "recalled": usb.recalled_request, "flying": usb.took_off,
-        "landed": usb.ended, "failed": usb.ended, "cut": usb.ended,
+        "landed": usb.ended, "failed": usb.ended, "retried": usb.tried_again, "cut": usb.ended,
     }
     for line in output.lines:
         if line.kind == "gave":

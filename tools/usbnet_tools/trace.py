@@ -52,6 +52,7 @@ KINDS = {
     "flying": "lane serial",
     "landed": "lane serial",
     "failed": "lane serial fault",
+    "retried": "lane serial attempt",
     "marked": "lane serial control",
     "cut": "lane serial control",
     "dropped": "lane from to control",

@@ -50,6 +50,8 @@ class Way:
     def told(self) -> str:
         """The way in words."""
         went = f"transfer {self.transfer}" if self.transfer is not None else "no transfer"
+        flights = sum(move.station == BUS for move in self.moves)
+        went += f", {flights} flights" if flights > 1 else ""
         end = f"lost at line {self.loss[0]}, {self.loss[1]}" if self.loss else "delivered" if self.station == RECEIVING_APP else "under way"
         return f"datagram {self.number} {self.lane}, of sender {self.sender}: {went}; {end}"
 
@@ -152,6 +154,12 @@ class History:
         self.flying.discard((line.lane, line["serial"]))
         self._move(line, self.of_transfer(line), RECEIVING_END)
 
+    def retried(self, line: Line) -> None:
+        """An attempt failed: the transfer waits again at the sending end, and its receive request comes home."""
+        self.flying.discard((line.lane, line["serial"]))
+        self.away[f"rx {line.lane}"] -= 1
+        self._move(line, self.of_transfer(line), SENDING_END)
+
     def ended(self, line: Line) -> None:
         """A transfer failed or was cut: one that flew gives its receive request back."""
         cause = f"failed: {line['fault']}" if line.kind == "failed" else f"cut by {self.cause(line['control'])}"
@@ -182,6 +190,6 @@ class History:
 # what each kind of line changes; a kind that isn't here changes no way and no request
 CALLS = {
     "took": History.took, "made": History.made, "posted": History.posted, "recalled": History.recalled, "flying": History.took_off,
-    "landed": History.landed, "failed": History.ended, "cut": History.ended, "dropped": History.dropped, "txhome": History.txhome,
-    "gave": History.gave, "settled": History.settled,
+    "landed": History.landed, "failed": History.ended, "retried": History.retried, "cut": History.ended, "dropped": History.dropped,
+    "txhome": History.txhome, "gave": History.gave, "settled": History.settled,
 }
