@@ -5,8 +5,6 @@
 #[cfg(test)]
 mod agg_tests;
 #[cfg(test)]
-mod endpoint_tests;
-#[cfg(test)]
 mod gadget_tests;
 #[cfg(test)]
 mod host_tests;
