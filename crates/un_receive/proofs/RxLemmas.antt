@@ -12,7 +12,6 @@ use Rattle.un_frame.specs.declared.params.Lane.{Lane}
 use Rattle.un_frame.specs.declared.params.Params.{Params}
 use Rattle.un_req.specs.Request.{Buffer, IsOut, Store, number_of}
 use Rattle.un_endpoint.specs.Ends.{IsAwayRx, IsWhole, Opened, Receiver, opened_number, rx_copies}
-use Rattle.un_endpoint.specs.EndOutcomes.{LeavesHome}
 use Rattle.un_endpoint.proofs.Copies.{below_size, copies_last, few, none_has, one_cases}
 use Rattle.un_receive.specs.Rx.{IsSized, IsSoundRx, fresh_rx}
 
@@ -153,17 +152,3 @@ module _ (r : Receiver) (opened : Opened) (is : r.current ≡ Some opened) (s : 
         sized = sized;
         away = omega (arith, here, one, all);
       }
-
--- a request that was taken to be posted is in none of the places
-pub refilled_away : (old new : Receiver) (request : Buffer) → ((n : ℕ) → rx_copies old n ≤ 1) → LeavesHome old new request → IsAwayRx new request
-refilled_away old new request once l =
-    let k = request.number in
-    let size : new.size ≡ old.size = ap (λ (r : Receiver). r.size) l.rest in
-    let capacity : new.capacity ≡ old.capacity = ap (λ (r : Receiver). r.capacity) l.rest in
-    let arrived : copies k (map number_of new.arrived) ≡ copies k (map number_of old.arrived) = ap (λ (r : Receiver). copies k (map number_of r.arrived)) l.rest in
-    let current : copies k (opened_number new.current) ≡ copies k (opened_number old.current) = ap (λ (r : Receiver). copies k (opened_number r.current)) l.rest in
-    let home : copies k old.home ≡ copies k new.home + (one_if (eqb k k) + 0) = ap (λ (ns : List ℕ). copies k ns) l.left ∙ copies_append k new.home (k ∷ []) in
-    let one = one_here k in
-    let all : rx_copies old k ≤ 1 = once k in
-    let known : k < old.size = l.known in
-    record { known = omega (arith, size, known); sized = ap (λ (b : Buffer). b.capacity) l.empty ∙ sym capacity; away = omega (arith, arrived, current, home, one, all) }

@@ -1,4 +1,4 @@
-use Rattle.un_receive.proofs.RxLemmas.{refilled_away}
+use Rattle.un_lane_tests.proofs.Refilled.{refilled_away}
 use Rattle.un_lane_tests.proofs.receive_tests.post_and_recall.Goals as goal
 
 pub give_back-requires : goal.give_back-requires

@@ -1,4 +1,4 @@
-use Rattle.un_receive.proofs.RxLemmas.{refilled_away}
+use Rattle.un_lane_tests.proofs.Refilled.{refilled_away}
 use Rattle.un_lane_tests.proofs.receive_tests.receive.Goals as goal
 
 pub arrive-requires-clause-away : goal.arrive-requires-clause-away
