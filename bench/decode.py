@@ -29,6 +29,10 @@ def eem(frames):
     return b"".join(struct.pack("<H", len(frame) + 4) + frame + b"\xde\xad\xbe\xef" for frame in frames)
 
 
+def rndis(frames):
+    return b"".join(struct.pack("<IIII", 1, len(frame) + 44, 36, len(frame)) + bytes(28) + frame for frame in frames)
+
+
 def ncm32(frames):
     """A block with its tables behind its frames."""
     places, end = [], 16
@@ -63,7 +67,7 @@ def write_files(name, length, transfer, wanted):
 
 
 # how a transfer is made, and its bytes for each frame beside the frame
-CLASSES = {"ncm32": (ncm32, 8), "eem": (eem, 6)}
+CLASSES = {"ncm32": (ncm32, 8), "eem": (eem, 6), "rndis": (rndis, 44)}
 
 
 def alone(name, transfer, wanted, taken):

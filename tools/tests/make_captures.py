@@ -30,13 +30,17 @@ def descriptors(subclass: int, out: int, back: int) -> bytes:
         body = bytes([9, 4, 0, 0, 2, 2, subclass, 7, 0]) + endpoints
     else:
         union = bytes([5, 0x24, 6, 0, 1])
-        body = bytes([9, 4, 0, 0, 1, 2, subclass, 0, 0]) + union + bytes([7, 5, 0x83, 3, 16, 0, 9])
+        body = bytes([9, 4, 0, 0, 1, 2, subclass, 0xFF if subclass == 0x02 else 0, 0]) + union + bytes([7, 5, 0x83, 3, 16, 0, 9])
         body += bytes([9, 4, 1, 0, 0, 10, 0, 0, 0, 9, 4, 1, 1, 2, 10, 0, 0, 0]) + endpoints
     return bytes([9, 2]) + struct.pack("<H", 9 + len(body)) + bytes([2, 1, 0, 0x80, 50]) + body
 
 
 def eem(*frames: bytes, sentinel: str = "deadbeef") -> bytes:
     return b"".join(struct.pack("<H", len(one) + 4) + one + bytes.fromhex(sentinel) for one in frames)
+
+
+def rndis(*frames: bytes) -> bytes:
+    return b"".join(struct.pack("<IIII", 1, len(one) + 44, 36, len(one)) + bytes(28) + one for one in frames)
 
 
 def ncm32(*frames: bytes, serial: int = 0, past: int = 0, size: int = 0) -> bytes:

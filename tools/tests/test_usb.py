@@ -45,7 +45,7 @@ class Stored(unittest.TestCase):
 
 class Functions(unittest.TestCase):
     def test_each_class_is_found(self) -> None:
-        for subclass, names in ((0x06, ["ecm"]), (0x0C, ["eem"]), (0x0D, ["ncm16", "ncm32"])):
+        for subclass, names in ((0x06, ["ecm"]), (0x0C, ["eem"]), (0x0D, ["ncm16", "ncm32"]), (0x02, ["rndis"])):
             (found,) = functions_in(make_captures.descriptors(subclass, 0x02, 0x81), 1, 7, "test")
             self.assertEqual([wire.name for wire in found.choices], names)
             self.assertEqual((found.out.address, found.back.address, found.out.packet), (0x02, 0x81, 512))
@@ -65,7 +65,7 @@ class Functions(unittest.TestCase):
             self.assertEqual(((found.bus, found.device), found.choices[0].name), (device, wire))
 
     def test_others_are_named(self) -> None:
-        self.assertEqual(others_in(bytes([9, 2, 18, 0, 1, 1, 0, 0, 0, 9, 4, 0, 0, 1, 0xE0, 1, 3, 0])), {"RNDIS"})
+        self.assertEqual(others_in(bytes([9, 2, 18, 0, 1, 1, 0, 0, 0, 9, 4, 0, 0, 1, 2, 0x0E, 0, 0])), {"MBIM"})
 
 
 class Joining(unittest.TestCase):
@@ -92,6 +92,16 @@ class Joining(unittest.TestCase):
             self.assertEqual(joined("eem", (self.full, end), (self.full, end)), [[1], [2]])
             block = make_captures.ncm32(make_captures.frame(1, 60), size=512)
             self.assertEqual(joined("ncm32", (block, end), (block, end)), [[1], [2]])
+
+    def test_lengths_tell_of_rndis(self) -> None:
+        message = make_captures.rndis(make_captures.frame(1, 468))
+        for end in (End.FULL, End.UNTOLD):
+            self.assertEqual(joined("rndis", (message, end), (message, end)), [[1], [2]])
+            self.assertEqual(joined("rndis", (message * 2, end), (b"", End.SHORT), (message, end)), [[1, 2], [3]])
+            long = make_captures.rndis(make_captures.frame(1, 600))
+            self.assertEqual(joined("rndis", (long[:512], end), (long[512:], End.SHORT)), [[1, 2]])
+        for data, whole in ((message + b"\0", True), (message + b"\0\0", False), (b"\0" * 512, None), (b"", True), (b"\0", False)):
+            self.assertEqual(class_named("rndis").is_whole(data), whole, data[:8])
 
     def test_eem_commands_have_their_bytes(self) -> None:
         echo, hint, reserved = b"\x04\x88abcd", b"\x04\x90", b"\x04\xc0"

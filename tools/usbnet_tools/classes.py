@@ -13,6 +13,8 @@ from typing import Callable
 # is a length
 EEM_COMMAND, EEM_CODE_PLACE, EEM_CODE, EEM_ECHOES = 0x8000, 11, 15, (0, 1)
 EEM_ECHO_LENGTH, EEM_FRAME_LENGTH = 0x07FF, 0x3FFF
+# the bytes of an RNDIS message's header (MS-RNDIS 2.2.14)
+RNDIS_HEADER = 44
 
 
 @dataclass(frozen=True)
@@ -21,7 +23,8 @@ class WireClass:
 
     name: str
     interfaces: tuple[tuple[int, ...], ...]
-    """The class, the subclass and, where it matters, the protocol of its control interface (CDC 1.2; EEM has this interface alone)."""
+    """The class, the subclass and, where it matters, the protocol of its control interface (CDC 1.2; EEM has this interface alone; RNDIS: those
+    that Linux's rndis_host and f_rndis know)."""
     signature: bytes
     """How each transfer begins, where that is told."""
     is_whole: Callable[[bytes], "bool | None"]
@@ -58,15 +61,27 @@ def _block_ends(width: int) -> Callable[[bytes], "bool | None"]:
     return ends
 
 
+def _messages_end(data: bytes) -> bool | None:
+    """Whether the last of RNDIS's messages ends with the bytes, or one byte before (MS-RNDIS 2.2.14); a length that no message has tells nothing."""
+    place = 0
+    while place + 8 <= len(data):
+        length = struct.unpack_from("<I", data, place + 4)[0]
+        if length < RNDIS_HEADER:
+            return None
+        place += length
+    return place == len(data) or 0 < place == len(data) - 1
+
+
 CLASSES = [
     WireClass("ecm", ((2, 0x06),), b"", _nothing_told),
     WireClass("eem", ((2, 0x0C),), b"", _packets_end),
     WireClass("ncm16", ((2, 0x0D),), b"NCMH", _block_ends(2)),
     WireClass("ncm32", ((2, 0x0D),), b"ncmh", _block_ends(4)),
+    WireClass("rndis", ((2, 0x02, 0xFF), (0xE0, 0x01, 0x03)), b"", _messages_end),
 ]
 NAMES = [wire.name for wire in CLASSES]
 # network functions that the program doesn't decode, so that they are named rather than passed over
-OTHER_FUNCTIONS = {(2, 0x02, 0xFF): "RNDIS", (0xE0, 0x01, 0x03): "RNDIS", (2, 0x0E, 0x00): "MBIM"}
+OTHER_FUNCTIONS = {(2, 0x0E, 0x00): "MBIM"}
 
 
 def class_named(name: str) -> WireClass:

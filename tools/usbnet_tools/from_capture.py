@@ -135,7 +135,7 @@ def _no_function(capture: Capture, found: Found) -> str:
             seen.setdefault((record.bus, record.device, record.endpoint), []).append(record.data)
     endpoints = "".join(f"\n  device {bus}.{device} endpoint {end:#04x}: {_looks(datas)}" for (bus, device, end), datas in sorted(seen.items()))
     return (
-        f"no descriptors of an ECM, EEM or NCM function in it.{others} Capture from before the device is plugged in, or say the class and "
+        f"no descriptors of an ECM, EEM, NCM or RNDIS function in it.{others} Capture from before the device is plugged in, or say the class and "
         f"its bulk endpoints by --class, --out and --in (lsusb -v shows them). Its bulk endpoints:{endpoints or ' none'}"
     )
 

@@ -2,7 +2,7 @@
 use Rattle.std.specs.Prelude.{◌≡◌, ℕ, List, ◌∷◌, ◌++◌, ◌⊎◌, codes, decimal, Option, Result, Ok, Err}
 use Rattle.std.specs.Io.KnownBytes.{Appends}
 use Rattle.un_frame.specs.declared.fault.Kind.{Kind}
-use Rattle.un_frame.specs.declared.fault.Kind.TheVariants.{Truncated, BadSentinel, CrcPacket, ShortFrame, BadSignature, BadHeaderLength, BadBlockLength, BadNdpIndex, BadNdpLength, CrcTable, NdpLoop, BadEntry}
+use Rattle.un_frame.specs.declared.fault.Kind.TheVariants.{Truncated, BadSentinel, CrcPacket, ShortFrame, BadSignature, BadHeaderLength, BadBlockLength, BadNdpIndex, BadNdpLength, CrcTable, NdpLoop, BadEntry, BadMessageType, BadMessageLength}
 use Rattle.un_io.specs.Io.{Rose, Stopped}
 use Rattle.un_io.specs.declared.whole.WriteFault.{WriteFault}
 use Rattle.un_script.specs.Reasons.{why_word}
@@ -48,6 +48,8 @@ kind_word BadNdpLength = codes "bad-ndp-length"
 kind_word CrcTable = codes "crc-table"
 kind_word NdpLoop = codes "ndp-loop"
 kind_word BadEntry = codes "bad-entry"
+kind_word BadMessageType = codes "bad-message-type"
+kind_word BadMessageLength = codes "bad-message-length"
 
 -- what doesn't agree
 abbrev pub setup_words : SetupFault → List ℕ

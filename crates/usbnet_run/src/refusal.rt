@@ -66,10 +66,10 @@ impl From<SetupFault> for Refusal {
     }
 }
 
-/// The word of a fault's kind: at most 17 bytes.
+/// The word of a fault's kind: at most 18 bytes.
 fn kind_word(kind: Kind) -> &'static [u8]
     ensures word { result.now ≡ Refusals.kind_word kind }
-    ensures short { length result.now ≤ 17 }
+    ensures short { length result.now ≤ 18 }
 {
     match kind {
         Kind::Truncated => b"truncated",
@@ -84,6 +84,8 @@ fn kind_word(kind: Kind) -> &'static [u8]
         Kind::CrcTable => b"crc-table",
         Kind::NdpLoop => b"ndp-loop",
         Kind::BadEntry => b"bad-entry",
+        Kind::BadMessageType => b"bad-message-type",
+        Kind::BadMessageLength => b"bad-message-length",
     }
 }
 

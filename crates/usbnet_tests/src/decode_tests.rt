@@ -43,7 +43,7 @@ fn answer(
 }
 
 /// Whether a decode of these bytes ends with this status and this text.
-fn gives(
+pub(crate) fn gives(
     alloc: Global,
     class: &str,
     bytes: Vec<u8>,
@@ -55,7 +55,7 @@ fn gives(
 }
 
 /// Whether a decode of these bytes, with others from a place on, is refused by this line.
-fn refuses(
+pub(crate) fn refuses(
     alloc: Global,
     class: &str,
     block: &[u8],

@@ -19,4 +19,6 @@ mod packing_tests;
 #[cfg(test)]
 mod retry_tests;
 #[cfg(test)]
+mod rndis_tests;
+#[cfg(test)]
 mod serial_tests;

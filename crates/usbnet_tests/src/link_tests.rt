@@ -369,9 +369,15 @@ fn has_ended(link: &Link, phase: Phase) -> bool {
     link.finished() && link.phase() == phase && (phase == Phase::Up || link.homes() == homes)
 }
 
-/// The script of five full frames in each lane, one control that is due at once, and a fault plan.
-fn with_control(alloc: Global, control: &[u8], plan: &[u8]) -> Result<Vec<u8>, AllocError> {
-    let mut text = Vec::from_slice(alloc, b"class ncm16\nblock 2048\nrequests 2 2 2 2")?;
+/// The script of a class, whose lines these are, with five full frames in each lane, one control that is due at once, and a fault plan.
+fn with_control(
+    alloc: Global,
+    class: &[u8],
+    control: &[u8],
+    plan: &[u8],
+) -> Result<Vec<u8>, AllocError> {
+    let mut text = Vec::from_slice(alloc, class)?;
+    text.extend_from_slice(b"\nrequests 2 2 2 2")?;
     for _ in 0..5 {
         let lines = filled(alloc, &[(b"\nout 0 ", 1514), (b"\nin 0 ", 1514)])?;
         text.extend_from_slice(&lines)?;
@@ -409,8 +415,14 @@ fn cut_at(
 }
 
 /// Whether all is as it is to be for a control after each number of lines. Without it the history has more than eighty: each of the ten frames needs seven, and a posted request.
-fn cuts_with(alloc: Global, control: &[u8], plan: &[u8], phase: Phase) -> Result<bool, AllocError> {
-    let script = with_control(alloc, control, plan)?;
+fn cuts_with(
+    alloc: Global,
+    class: &[u8],
+    control: &[u8],
+    plan: &[u8],
+    phase: Phase,
+) -> Result<bool, AllocError> {
+    let script = with_control(alloc, class, control, plan)?;
     for lines in 0..1000 {
         match cut_at(alloc, &script, phase, lines)? {
             Some(true) => {}
@@ -421,8 +433,15 @@ fn cuts_with(alloc: Global, control: &[u8], plan: &[u8], phase: Phase) -> Result
     Ok(false)
 }
 
-/// The same for each control that cuts, with this fault plan.
-pub(crate) fn cuts_at_every_moment(alloc: Global, plan: &[u8]) -> Result<bool, AllocError> {
+/// The lines of a class whose blocks hold one full frame each.
+pub(crate) const BLOCKS: &[u8] = b"class ncm16\nblock 2048";
+
+/// The same for each control that cuts, with these lines of a class and this fault plan.
+pub(crate) fn cuts_at_every_moment(
+    alloc: Global,
+    class: &[u8],
+    plan: &[u8],
+) -> Result<bool, AllocError> {
     let rows: [(&[u8], Phase); 4] = [
         (b"unplug", Phase::Away),
         (b"down", Phase::Down),
@@ -430,7 +449,7 @@ pub(crate) fn cuts_at_every_moment(alloc: Global, plan: &[u8]) -> Result<bool, A
         (b"unlink in", Phase::Up),
     ];
     for (control, phase) in rows {
-        if !cuts_with(alloc, control, plan, phase)? {
+        if !cuts_with(alloc, class, control, plan, phase)? {
             return Ok(false);
         }
     }
@@ -439,6 +458,6 @@ pub(crate) fn cuts_at_every_moment(alloc: Global, plan: &[u8]) -> Result<bool, A
 
 #[test]
 fn a_cut_at_every_moment_loses_no_count(rt: HostRuntime) -> Result<(), Fail> {
-    assert!(rt; cuts_at_every_moment(rt.alloc(), b"")?);
+    assert!(rt; cuts_at_every_moment(rt.alloc(), BLOCKS, b"")?);
     Ok(())
 }

@@ -11,7 +11,7 @@ use un_share::{Gate, OpenGate};
 use usbnet_run::usbnet_main;
 
 /// The status of the program for these words and this input, and the sink, where these writes fail.
-fn answer<R: Threads + Wait + Sync, G: Gate + Sync>(
+pub(crate) fn answer<R: Threads + Wait + Sync, G: Gate + Sync>(
     rt: &R,
     alloc: Global,
     words: &[&str],
@@ -30,7 +30,7 @@ fn answer<R: Threads + Wait + Sync, G: Gate + Sync>(
 }
 
 /// Three frames of 60 bytes behind these lines.
-fn three(alloc: Global, head: &[u8]) -> Result<Vec<u8>, AllocError> {
+pub(crate) fn three(alloc: Global, head: &[u8]) -> Result<Vec<u8>, AllocError> {
     filled(alloc, &[(head, 60), (b"\nout 0 ", 60), (b"\nout 0 ", 60)])
 }
 
@@ -61,7 +61,7 @@ fn outward(alloc: Global, text: &[u8], from: &[u8], to: &[u8]) -> Result<Vec<u8>
 }
 
 /// Whether a text has this line.
-fn has_line(text: &[u8], wanted: &[u8]) -> bool {
+pub(crate) fn has_line(text: &[u8], wanted: &[u8]) -> bool {
     text.split(|&byte| byte == b'\n').any(|line| line == wanted)
 }
 

@@ -1,6 +1,6 @@
 //! Transfers that are tried again: by `serial`, by calls, and with a control at every moment between their attempts.
 
-use crate::link_tests::{answers, cuts_at_every_moment, linked, traces};
+use crate::link_tests::{BLOCKS, answers, cuts_at_every_moment, linked, traces};
 use crate::serial_tests::{Piece, filled, runs};
 use std::alloc::{AllocError, Global};
 use std::test::Fail;
@@ -114,6 +114,6 @@ fn a_mark_between_attempts_cuts(rt: HostRuntime) -> Result<(), Fail> {
 
 #[test]
 fn a_cut_between_attempts_loses_no_count(rt: HostRuntime) -> Result<(), Fail> {
-    assert!(rt; cuts_at_every_moment(rt.alloc(), b"\nfault out 0 proto 2")?);
+    assert!(rt; cuts_at_every_moment(rt.alloc(), BLOCKS, b"\nfault out 0 proto 2")?);
     Ok(())
 }

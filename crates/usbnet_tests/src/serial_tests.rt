@@ -117,7 +117,7 @@ phase up\n\
 end\n";
 
 /// Whether the link of a script without frames is set up as these lines of its report tell.
-fn sets_up(alloc: Global, script: &[u8], lines: &[u8]) -> Result<bool, AllocError> {
+pub(crate) fn sets_up(alloc: Global, script: &[u8], lines: &[u8]) -> Result<bool, AllocError> {
     let text = filled(alloc, &[(POSTED, 0), (lines, 0), (NOTHING, 0)])?;
     let script = Vec::from_slice(alloc, script)?;
     tells(alloc, Some("serial"), script, &[], &[], 0, &text)
@@ -165,7 +165,7 @@ control 0009010000000000 -\n";
 }
 
 /// Whether one outward frame of so many bytes is given, where the link of a class waits as these lines say, makes its transfer of the frame between these digits, and sends so many packets.
-fn carries<'x>(
+pub(crate) fn carries<'x>(
     alloc: Global,
     class: &'x [u8],
     length: usize,
