@@ -1,5 +1,5 @@
--- What the rules of a class are due: the laws on which all that is above the wire rests, whatever the class. EcmLaws, EemLaws
--- and NtbLaws have them of each class, and AllLaws of all.
+-- What the rules of a class are due: the laws on which all that is above the wire rests, whatever the class. EcmLaws, EemLaws,
+-- NtbLaws and RndisLaws have them of each class, and AllLaws of all.
 use Rattle.std.specs.Prelude.{◌≡◌, ℕ, ◌+◌, ◌<◌, ◌≤◌, ◌^◌, ◌↔◌, true, List, [], ◌∷◌, ◌++◌, length, map, None}
 use Rattle.std.specs.Bool.{IsTrue}
 use Rattle.std.specs.List.{AllByRecursion, sum_by}

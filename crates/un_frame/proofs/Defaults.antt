@@ -1,7 +1,7 @@
 -- The parameters of a class where nothing says others are in range, and the ends agree on them.
 use Rattle.std.proofs.Common.{◌≤◌, refl, arith}
 use Rattle.un_frame.specs.declared.params.Class.{Class}
-use Rattle.un_frame.specs.declared.params.Class.TheVariants.{Ecm, Eem, Ncm16, Ncm32}
+use Rattle.un_frame.specs.declared.params.Class.TheVariants.{Ecm, Eem, Ncm16, Ncm32, Rndis}
 use Rattle.un_frame.specs.NtbForm.{least_place, least_multiple}
 use Rattle.un_frame.specs.Params.{AreInRange, Agree, defaults, most_block}
 
@@ -26,6 +26,7 @@ defaults_in_range Ecm = in_range Ecm (omega arith)
 defaults_in_range Eem = in_range Eem (omega arith)
 defaults_in_range Ncm16 = in_range Ncm16 (omega arith)
 defaults_in_range Ncm32 = in_range Ncm32 (omega arith)
+defaults_in_range Rndis = in_range Rndis (omega arith)
 
 pub defaults_agree : (class : Class) → Agree (defaults class)
 unfolding least_place least_multiple
@@ -33,3 +34,4 @@ defaults_agree Ecm = tt
 defaults_agree Eem = tt
 defaults_agree Ncm16 = record { divisor = refl; remainder = omega arith; alignment = refl; largest = omega arith }
 defaults_agree Ncm32 = record { divisor = refl; remainder = omega arith; alignment = refl; largest = omega arith }
+defaults_agree Rndis = tt

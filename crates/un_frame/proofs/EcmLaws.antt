@@ -6,7 +6,7 @@ use Rattle.std.proofs.lemmas.List.Sums.{sum_by-cons}
 use Rattle.std.specs.List.{concat, sum_by}
 use Rattle.un_frame.specs.declared.params.Params.{Params}
 use Rattle.un_frame.specs.Bytes.{Place, slice_at}
-use Rattle.un_frame.specs.Classes.{ecm}
+use Rattle.un_frame.specs.Classes.{ecm, fits_alone}
 use Rattle.un_frame.specs.Places.{spaced_places}
 use Rattle.un_frame.specs.Wire.{InTurn}
 use Rattle.un_frame.proofs.ClassLaws.{AreLong, AreParts, ClassLaws, IsReadBack}
@@ -34,7 +34,7 @@ frame_read frame most least within = rw (append-nil frame) (record {
 })
 
 -- where one frame fits a transfer, frames that fit one after the other are one
-one_alone : (p : Params) (frames : List (List ℕ)) → 1 ≤ length frames → InTurn (ecm.fits p) [] (map length frames) → (frame : List ℕ) × (frames ≡ frame ∷ []) × (length frame ≤ p.segment)
+pub one_alone : (p : Params) (frames : List (List ℕ)) → 1 ≤ length frames → InTurn (fits_alone p) [] (map length frames) → (frame : List ℕ) × (frames ≡ frame ∷ []) × (length frame ≤ p.segment)
 one_alone p [] some h = absurd (omega (arith, some))
 one_alone p (x ∷ []) some h = (x, refl, grind (arith, nat_tests, h.0))
 one_alone p (x ∷ y ∷ rest) some h = absurd (false≢true h.1.0)

@@ -1,11 +1,11 @@
 -- A class in one place: what its transfers mean, how they are written, and what else depends on a link's class here. A
 -- class of the project is one value of `Rules` below, and one case of `rules_of`; the wire formats themselves have files
--- of their own (Ecm, Eem, Ntb, NtbForm). What each class is due is the record `ClassLaws` of proofs/ClassLaws.
+-- of their own (Ecm, Eem, Ntb, NtbForm, Rndis). What each class is due is the record `ClassLaws` of proofs/ClassLaws.
 use Rattle.std.specs.Prelude.{◌≡◌, ℕ, ◌+◌, ◌*◌, ◌==◌, ◌&&◌, nat_le, max, Bool, true, false, List, [], ◌∷◌, ◌++◌, length, flat_map, codes, Option}
 use Rattle.std.specs.List.{concat}
 use Rattle.un_frame.specs.declared.params.Params.{Params}
 use Rattle.un_frame.specs.declared.params.Class.{Class}
-use Rattle.un_frame.specs.declared.params.Class.TheVariants.{Ecm, Eem, Ncm16, Ncm32}
+use Rattle.un_frame.specs.declared.params.Class.TheVariants.{Ecm, Eem, Ncm16, Ncm32, Rndis}
 use Rattle.un_frame.specs.declared.params.Lane.{Lane}
 use Rattle.un_frame.specs.declared.params.Lane.TheVariants.{Outward, Inward}
 use Rattle.un_frame.specs.declared.fault.Fault.{Fault}
@@ -16,6 +16,7 @@ use Rattle.un_frame.specs.Eem.{Data, packet_bytes, packets_fit, EemReads, eem_fa
 use Rattle.un_frame.specs.Ntb.{Format, NtbReads, ntb_fault, ntb16, ntb32, MOST_TABLES}
 use Rattle.un_frame.specs.NtbForm.{ntb_form, block_fits, open_block, datagram_places}
 use Rattle.un_frame.specs.Places.{eem_places, ntb_places, spaced_places}
+use Rattle.un_frame.specs.Rndis.{RndisReads, rndis_fault, rndis_places, message_bytes}
 
 -- the rules of one class
 pub record Rules : Type 1 where
@@ -45,6 +46,10 @@ pub record Rules : Type 1 where
   -- whether frames of these sizes may stand in one transfer together, where a lane packs
   pub fits_together : Params → List ℕ → Bool
 
+-- where a transfer has one frame alone: one of at most a segment fits a transfer without a frame
+abbrev pub fits_alone : Params → List ℕ → ℕ → Bool
+fits_alone p sizes size = (length sizes == 0) && nat_le size p.segment
+
 -- ECM: a transfer is a frame, of at most a segment
 abbrev pub ecm : Rules
 ecm = record {
@@ -61,7 +66,7 @@ ecm = record {
   open_form = λ p frames. concat frames;
   open_places = λ p sizes. spaced_places 0 0 0 sizes;
   capacity = λ p. p.segment;
-  fits = λ p sizes size. (length sizes == 0) && nat_le size p.segment;
+  fits = fits_alone;
   fits_together = λ p sizes. false;
 }
 
@@ -123,13 +128,35 @@ ncm16 = ncm ntb16 (codes "ncm16") 65535
 abbrev pub ncm32 : Rules
 ncm32 = ncm ntb32 (codes "ncm32") 262144
 
+-- RNDIS: a transfer is a message with one frame of at most a segment, which stands behind the message's 44 bytes of header;
+-- a reader takes several messages
+abbrev pub rndis : Rules
+rndis = record {
+  word = codes "rndis";
+  builds_blocks = false;
+  most_block = 262144;
+  agree = λ p. Unit {0};
+  packs = λ lane. false;
+  reads_at = λ bytes places commands. RndisReads bytes places × (commands ≡ 0);
+  fault = rndis_fault;
+  places = λ bytes. rndis_places (length bytes) bytes 0;
+  most_frames = λ size. size;
+  form = λ p serial frames. flat_map message_bytes frames;
+  open_form = λ p frames. flat_map message_bytes frames;
+  open_places = λ p sizes. spaced_places 44 0 0 sizes;
+  capacity = λ p. p.segment + 44;
+  fits = fits_alone;
+  fits_together = λ p sizes. false;
+}
+
 -- the rules of each class
 abbrev pub rules_of : Class → Rules
 rules_of Ecm = ecm
 rules_of Eem = eem
 rules_of Ncm16 = ncm16
 rules_of Ncm32 = ncm32
+rules_of Rndis = rndis
 
 -- all classes
 abbrev pub CLASSES : List Class
-CLASSES = Ecm ∷ Eem ∷ Ncm16 ∷ Ncm32 ∷ []
+CLASSES = Ecm ∷ Eem ∷ Ncm16 ∷ Ncm32 ∷ Rndis ∷ []

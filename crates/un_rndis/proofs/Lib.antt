@@ -1,0 +1,4 @@
+mod Checked
+mod Steps
+mod FrameSteps
+mod Reading
