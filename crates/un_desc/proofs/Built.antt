@@ -10,12 +10,12 @@ use Rattle.un_frame.specs.Bytes.{number_at, number_bytes}
 use Rattle.un_frame.specs.Params.{AreInRange}
 use Rattle.un_frame.specs.declared.params.Params.{Params}
 use Rattle.un_frame.specs.declared.params.Class.{Class}
-use Rattle.un_frame.specs.declared.params.Class.TheVariants.{Ecm, Eem, Ncm16, Ncm32}
+use Rattle.un_frame.specs.declared.params.Class.TheVariants.{Ecm, Eem, Ncm16, Ncm32, Rndis}
 use Rattle.un_desc.specs.declared.function.DescFault.{DescFault}
 use Rattle.un_desc.specs.declared.function.FunctionKind.{FunctionKind}
 use Rattle.un_desc.specs.declared.function.FunctionKind.TheVariants as kinds
 use Rattle.un_desc.specs.declared.function.Function.{Function}
-use Rattle.un_desc.specs.Configuration.{configuration, configuration_as, ecm_configuration, eem_configuration, ncm_configuration, function, function_as, BULK_IN, BULK_OUT}
+use Rattle.un_desc.specs.Configuration.{IsDescribed, configuration, configuration_as, ecm_configuration, eem_configuration, ncm_configuration, function, function_as, BULK_IN, BULK_OUT}
 use Rattle.un_desc.specs.Walk.{least_length, descriptor_of, length_at, walk_most, walk_from}
 use Rattle.un_desc.specs.Reading.{first, own, setting_of, described, function_of}
 
@@ -64,12 +64,13 @@ as_said kind segment capabilities interface setting packet s p =
     ∙ ap (λ (x : ℕ). described_as kind segment capabilities interface setting (x % 2048)) two
     ∙ ap (λ (x : ℕ). described_as kind segment capabilities interface setting x) three
 
-built_as : (class : Class) (p : Params) → p.segment < 65536 → p.packet ≤ 1024 → function_of (configuration_as class p) ≡ Ok (function_as class p)
-built_as Ecm p s k = ecm_built p.segment p.packet ∙ as_said kinds.Ecm p.segment 0 1 1 p.packet s k
-built_as Eem p s k = eem_built p.packet ∙ as_said kinds.Eem 0 0 0 0 p.packet (omega arith) k
-built_as Ncm16 p s k = ncm_built p.segment p.packet ∙ as_said kinds.Ncm p.segment 9 1 1 p.packet s k
-built_as Ncm32 p s k = ncm_built p.segment p.packet ∙ as_said kinds.Ncm p.segment 9 1 1 p.packet s k
+built_as : (class : Class) (p : Params) → IsDescribed class → p.segment < 65536 → p.packet ≤ 1024 → function_of (configuration_as class p) ≡ Ok (function_as class p)
+built_as Ecm p d s k = ecm_built p.segment p.packet ∙ as_said kinds.Ecm p.segment 0 1 1 p.packet s k
+built_as Eem p d s k = eem_built p.packet ∙ as_said kinds.Eem 0 0 0 0 p.packet (omega arith) k
+built_as Ncm16 p d s k = ncm_built p.segment p.packet ∙ as_said kinds.Ncm p.segment 9 1 1 p.packet s k
+built_as Ncm32 p d s k = ncm_built p.segment p.packet ∙ as_said kinds.Ncm p.segment 9 1 1 p.packet s k
+built_as Rndis p d s k = absurd d
 
-pub built_is_read : (p : Params) → AreInRange p → function_of (configuration p) ≡ Ok (function p)
+pub built_is_read : (p : Params) → AreInRange p → IsDescribed p.class → function_of (configuration p) ≡ Ok (function p)
 unfolding configuration
-built_is_read p range = built_as p.class p (omega (arith, range.segment)) (packet_small p.packet range.packet)
+built_is_read p range described = built_as p.class p described (omega (arith, range.segment)) (packet_small p.packet range.packet)

@@ -4,7 +4,7 @@ use Rattle.std.specs.Prelude.{ℕ, List, [], ◌∷◌, ◌++◌}
 use Rattle.un_frame.specs.Bytes.{number_bytes}
 use Rattle.un_frame.specs.declared.params.Params.{Params}
 use Rattle.un_frame.specs.declared.params.Class.{Class}
-use Rattle.un_frame.specs.declared.params.Class.TheVariants.{Ecm, Eem, Ncm16, Ncm32}
+use Rattle.un_frame.specs.declared.params.Class.TheVariants.{Ecm, Eem, Ncm16, Ncm32, Rndis}
 use Rattle.un_desc.specs.declared.function.FunctionKind.{FunctionKind}
 use Rattle.un_desc.specs.declared.function.FunctionKind.TheVariants as kinds
 use Rattle.un_desc.specs.declared.function.Function.{Function}
@@ -110,17 +110,23 @@ eem_configuration packet =
     ++ endpoint_bytes BULK_IN 2 packet 0
     ++ endpoint_bytes BULK_OUT 2 packet 0
 
+-- the classes whose gadget has a configuration here; RNDIS has none
+abbrev pub IsDescribed : Class → Type 0
+IsDescribed Rndis = ⊥
+IsDescribed class = Unit {0}
+
 abbrev pub configuration_as : Class → Params → List ℕ
 configuration_as Ecm p = ecm_configuration p.segment p.packet
 configuration_as Eem p = eem_configuration p.packet
 configuration_as Ncm16 p = ncm_configuration p.segment p.packet
 configuration_as Ncm32 p = ncm_configuration p.segment p.packet
+configuration_as Rndis p = []
 
 -- the configuration of a link's class, by its parameters
 unfoldable pub configuration : Params → List ℕ
 configuration p = configuration_as p.class p
 
--- the function that each class's configuration describes
+-- the function that each class's configuration describes; that of RNDIS is known by the parameters alone
 abbrev pub networking_function : FunctionKind → ℕ → Params → Function
 networking_function kind capabilities p = record {
   kind = kind;
@@ -149,6 +155,17 @@ function_as Eem p = record {
 }
 function_as Ncm16 p = networking_function kinds.Ncm CAPABILITIES p
 function_as Ncm32 p = networking_function kinds.Ncm CAPABILITIES p
+function_as Rndis p = record {
+  kind = kinds.Rndis;
+  control = 0;
+  segment = p.segment;
+  capabilities = 0;
+  interface = 0;
+  setting = 0;
+  bulk_in = 0;
+  bulk_out = 0;
+  packet = p.packet;
+}
 
 -- the function of a link's class, by its parameters
 abbrev pub function : Params → Function

@@ -1,6 +1,6 @@
 -- The function that descriptors describe, or the first fault: that of the walk, and else the first part that is missing.
 -- The order of the checks is this project's own.
-use Rattle.std.specs.Prelude.{ℕ, ◌%◌, Bool, true, false, ◌&&◌, not, List, [], ◌∷◌, ◌==◌, nat_le, if◌then◌else◌, Option, Some, None, Result, Ok}
+use Rattle.std.specs.Prelude.{ℕ, ◌%◌, Bool, true, false, ◌&&◌, not, List, [], ◌∷◌, ◌==◌, nat_le, if◌then◌else◌, Option, Some, None, Result, Ok, Err}
 use Rattle.std.specs.Option.{option_or}
 use Rattle.un_desc.specs.declared.function.DescFault.{DescFault}
 use Rattle.un_desc.specs.declared.function.DescFault.TheVariants.{Missing, Unknown}
@@ -128,14 +128,6 @@ setting_of number (d ∷ ds) = option_or (setting_here number d (bulk_of ds)) (s
 
 -- THE FUNCTION
 
--- by the subclass of the control interface
-abbrev pub kind_of : ℕ → Option FunctionKind
-kind_of subclass =
-    if subclass == ECM_SUBCLASS then Some kinds.Ecm
-    else (if subclass == EEM_SUBCLASS then Some kinds.Eem
-    else (if subclass == NCM_SUBCLASS then Some kinds.Ncm
-    else None))
-
 -- the function with these bulk endpoints; the packet size is in the lowest 11 bits of the IN endpoint's (USB 2.0, 9.6.6)
 abbrev pub function_with : FunctionKind → ℕ → ℕ → ℕ → ℕ → Setting → Function
 function_with kind control segment capabilities interface s = record {
@@ -175,17 +167,19 @@ read_ncm ds control = do
   setting ← given (Missing parts.Endpoints) (setting_of interface ds)
   Ok (function_with kinds.Ncm control segment capabilities interface setting)
 
-abbrev pub read_as : FunctionKind → List Descriptor → ℕ → Result Function DescFault
-read_as kinds.Ecm ds control = read_ecm ds control
-read_as kinds.Eem ds control = read_eem ds control
-read_as kinds.Ncm ds control = read_ncm ds control
+-- by the subclass of the control interface; no function that is read is of RNDIS
+abbrev pub read_as : ℕ → List Descriptor → ℕ → Result Function DescFault
+read_as subclass ds control =
+    if subclass == ECM_SUBCLASS then read_ecm ds control
+    else (if subclass == EEM_SUBCLASS then read_eem ds control
+    else (if subclass == NCM_SUBCLASS then read_ncm ds control
+    else Err (Unknown subclass)))
 
 -- the function that descriptors describe
 unfoldable pub described : List Descriptor → Result Function DescFault
 described ds = do
   control ← given (Missing parts.Control) (first control_in ds)
-  kind ← given (Unknown control.subclass) (kind_of control.subclass)
-  read_as kind ds control.number
+  read_as control.subclass ds control.number
 
 -- the function that bytes describe, or the first fault
 unfoldable pub function_of : List ℕ → Result Function DescFault

@@ -1,6 +1,6 @@
 //! What a host learns from a configuration, and why one is refused.
 
-/// The kind of a networking function, by the subclass of its control interface.
+/// The kind of a networking function, by the subclass of its control interface where a configuration describes it.
 #[derive(Clone, Copy, Debug, PartialEq, Eq)]
 pub enum FunctionKind {
     /// Ethernet Control Model, subclass 0x06 (ECM 1.2, 4.2).
@@ -9,16 +9,19 @@ pub enum FunctionKind {
     Eem,
     /// Network Control Model, subclass 0x0d (NCM 1.0, 4.2).
     Ncm,
+    /// RNDIS, whose descriptors this crate neither writes nor reads: `read` never gives it.
+    Rndis,
 }
 
-/// A networking function, as a configuration describes it.
+/// A networking function, as a configuration describes it. One of RNDIS, which no configuration describes here, has its kind,
+/// its segment and its packet alone, and 0 elsewhere.
 #[derive(Clone, Copy, Debug, PartialEq, Eq)]
 pub struct Function {
-    /// Which of the three it is.
+    /// Which of these it is.
     pub kind: FunctionKind,
     /// The number of the control interface.
     pub control: u8,
-    /// The longest frame, in bytes, as the Ethernet descriptor says, and 0 for EEM.
+    /// The longest frame, in bytes, as the Ethernet descriptor says, and 0 for EEM; for RNDIS that of the parameters.
     pub segment: u32,
     /// The capabilities of NCM, bit by bit (NCM 1.0, table 5-2), and 0 for the others.
     pub capabilities: u8,
@@ -30,7 +33,7 @@ pub struct Function {
     pub bulk_in: u8,
     /// The address of its bulk OUT endpoint, from the host to the device.
     pub bulk_out: u8,
-    /// The bytes of a full packet of the bulk IN endpoint, 0 to 2,047.
+    /// The bytes of a full packet of the bulk IN endpoint, 0 to 2,047; for RNDIS those of the parameters.
     pub packet: u32,
 }
 
@@ -61,6 +64,6 @@ pub enum DescFault {
     BadLength { at: u64 },
     /// No descriptor is this part.
     Missing { part: Part },
-    /// The first control interface has this subclass, which is none of the three.
+    /// The first control interface has this subclass, which is none of ECM, EEM and NCM.
     Unknown { class: u8 },
 }

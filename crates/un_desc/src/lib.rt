@@ -1,8 +1,8 @@
 //! Descriptors both ways: the configuration that the gadget offers, and the function that a host reads from one
-//! (USB 2.0 chapter 9, CDC 1.2, ECM 1.2, EEM 1.0, NCM 1.0).
+//! (USB 2.0 chapter 9, CDC 1.2, ECM 1.2, EEM 1.0, NCM 1.0). Those of RNDIS stay out of this project.
 //!
 //! ```text
-//! let bytes = build(alloc, &params)?;                 // the configuration of the parameters' class
+//! let bytes = build(alloc, &params)?;                 // the configuration of the parameters' class, not RNDIS
 //! match read(bytes.as_slice()) {
 //!     Ok(function) => ..                              // its kind, interfaces, endpoints, segment and packet size
 //!     Err(DescFault::Missing { part }) => ..          // no descriptor is this part

@@ -9,18 +9,6 @@ use crate::function::{DescFault, Function, FunctionKind, Part};
 use crate::parts::{Parts, Setting, found, working_setting};
 use crate::walk::Descriptors;
 
-/// The kind by the subclass of a control interface.
-fn kind(subclass: u8) -> Option<FunctionKind>
-    ensures { result ≡ Rattle.un_desc.specs.Reading.kind_of subclass }
-{
-    match subclass {
-        0x06 => Some(FunctionKind::Ecm),
-        0x0c => Some(FunctionKind::Eem),
-        0x0d => Some(FunctionKind::Ncm),
-        _ => None,
-    }
-}
-
 /// A part is missing.
 fn missing(part: Part) -> Result<Function, DescFault>
     ensures { result ≡ Err (Missing part) }
@@ -128,13 +116,11 @@ fn described(descriptors: &Descriptors<'_>) -> Result<Function, DescFault>
     let Some(control) = parts.control else {
         return missing(Part::Control);
     };
-    match kind(control.subclass) {
-        Some(FunctionKind::Ecm) => read_ecm(descriptors, parts, control.number),
-        Some(FunctionKind::Eem) => read_eem(descriptors, control.number),
-        Some(FunctionKind::Ncm) => read_ncm(descriptors, parts, control.number),
-        None => Err(DescFault::Unknown {
-            class: control.subclass,
-        }),
+    match control.subclass {
+        0x06 => read_ecm(descriptors, parts, control.number),
+        0x0c => read_eem(descriptors, control.number),
+        0x0d => read_ncm(descriptors, parts, control.number),
+        class => Err(DescFault::Unknown { class }),
     }
 }
 
@@ -146,7 +132,7 @@ fn described(descriptors: &Descriptors<'_>) -> Result<Function, DescFault>
 /// skipped. After the walk it is the first of these: `Missing` a control interface; `Unknown` subclass of the first; of ECM
 /// and NCM `Missing` header, union, Ethernet and (NCM) NCM descriptor; `Missing` endpoints, where no interface descriptor
 /// of the data interface's number has a bulk IN and a bulk OUT endpoint before the next interface descriptor.
-/// It takes no memory.
+/// It takes no memory. A function that it answers is of ECM, EEM or NCM, and never of RNDIS.
 #[tactic(auto, unfolding(crate::specs::Reading::function_of))]
 pub fn read(bytes: &[u8]) -> Result<Function, DescFault>
     ensures { result ≡ function_of bytes.now }

@@ -1,7 +1,7 @@
 //! The configuration that the gadget offers.
 
 ghost use Rattle.std.specs.Prelude.{◌≡◌, ◌++◌, ◌^◌, ◌<◌, OnOk, IfOk, Ok};
-ghost use Rattle.un_desc.specs.Configuration.{configuration, configuration_bytes, interface_bytes, endpoint_bytes, header_bytes, union_bytes, ethernet_bytes, ncm_bytes, notification_bytes, ecm_configuration, eem_configuration, ncm_configuration, function};
+ghost use Rattle.un_desc.specs.Configuration.{configuration, configuration_bytes, interface_bytes, endpoint_bytes, header_bytes, union_bytes, ethernet_bytes, ncm_bytes, notification_bytes, IsDescribed, ecm_configuration, eem_configuration, ncm_configuration, function};
 ghost use Rattle.un_desc.specs.Reading.{function_of};
 ghost use Rattle.un_frame.specs.Bytes.{number_bytes};
 ghost use Rattle.un_frame.specs.Params.{AreInRange};
@@ -140,10 +140,11 @@ fn eem(alloc: Global, packet: u16) -> Result<Vec<u8>, AllocError>
     Ok(bytes)
 }
 
-/// The configuration of a class.
+/// The configuration of a class that has one.
 #[tactic(auto, using(crate::proofs::Built::packet_small), unfolding(crate::specs::Configuration::configuration))]
 fn whole(alloc: Global, params: &Params) -> Result<Vec<u8>, AllocError>
-    requires { AreInRange params.now }
+    requires range { AreInRange params.now }
+    requires described { IsDescribed params.now.class }
     ensures { IfOk result (λ v. v.items ≡ Rattle.un_desc.specs.Configuration.configuration params.now) }
 {
     let segment = params.segment as u16;
@@ -152,14 +153,16 @@ fn whole(alloc: Global, params: &Params) -> Result<Vec<u8>, AllocError>
         Class::Ecm => ecm(alloc, segment, packet),
         Class::Eem => eem(alloc, packet),
         Class::Ncm16 | Class::Ncm32 => ncm(alloc, segment, packet),
+        Class::Rndis => unreachable!(),
     }
 }
 
 /// The configuration that the gadget of a link offers, by its class, segment and packet size: 80 bytes for ECM, 86 for NCM,
-/// 32 for EEM. The parameters are in their ranges. An error is want of memory. What `read` makes of the bytes is the
-/// function of these parameters.
+/// 32 for EEM. The parameters are in their ranges, and the class isn't RNDIS, whose descriptors stay out of this project. An
+/// error is want of memory. What `read` makes of the bytes is the function of these parameters.
 pub fn build(alloc: Global, params: &Params) -> Result<Bytes, AllocError>
-    requires { AreInRange params.now }
+    requires range { AreInRange params.now }
+    requires described { IsDescribed params.now.class }
     ensures bytes { IfOk result (λ b. b ≡ Rattle.un_desc.specs.Configuration.configuration params.now) }
     ensures read_back { IfOk result (λ b. function_of b ≡ Ok (function params.now)) }
 {

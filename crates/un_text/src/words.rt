@@ -71,6 +71,7 @@ pub fn class_word(class: Class) -> &'static [u8]
         Class::Eem => b"eem",
         Class::Ncm16 => b"ncm16",
         Class::Ncm32 => b"ncm32",
+        Class::Rndis => b"rndis",
     }
 }
 
@@ -86,6 +87,8 @@ pub fn class_named(word: &[u8]) -> Option<Class>
         Some(Class::Ncm16)
     } else if is(word, b"ncm32") {
         Some(Class::Ncm32)
+    } else if is(word, b"rndis") {
+        Some(Class::Rndis)
     } else {
         None
     }
