@@ -1,4 +1,3 @@
-mod Checked
 mod Steps
 mod FrameSteps
 mod Reading

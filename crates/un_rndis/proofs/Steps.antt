@@ -1,14 +1,14 @@
 -- Walking over the messages of a transfer, one at a time.
-use Rattle.std.proofs.Common.{◌≡◌, ℕ, zero, suc, ◌+◌, ◌-◌, ◌≤◌, Bool, true, false, if◌then◌else◌, List, [], ◌∷◌, length, Option, Some, None, refl, sym, ap, ◌∙◌, arith}
+use Rattle.std.proofs.Common.{◌≡◌, ℕ, zero, suc, ◌+◌, ◌-◌, ◌<◌, ◌≤◌, Bool, true, false, if◌then◌else◌, List, [], ◌∷◌, length, Option, Some, None, refl, sym, ap, ◌∙◌, arith}
 use Rattle.std.proofs.lemmas.Bool.Decides.{nat_tests}
 use Rattle.un_frame.proofs.NtbLemmas.{none_or_else}
+use Rattle.un_frame.proofs.RndisLemmas.{IsChecked, checked, fault_next, fault_past, past_end, places_next, places_past}
 use Rattle.un_frame.specs.declared.fault.Fault.{Fault}
 use Rattle.un_frame.specs.Bytes.{Place}
 use Rattle.un_frame.specs.Fault.{or_else}
 use Rattle.un_frame.specs.Rndis.{is_past, message_fault, message_frame, message_length, messages_fault, rndis_fault, rndis_places}
 use Rattle.un_rndis.specs.Frames.{IsOn}
 use Rattle.un_rndis.specs.Walk.{fault_from, places_from}
-use Rattle.un_rndis.proofs.Checked.{IsChecked, checked, more}
 
 -- what stands behind a test or a check counts only where these find nothing
 or_same : (m x y : Option Fault) → (m ≡ None → x ≡ y) → or_else m x ≡ or_else m y
@@ -19,12 +19,9 @@ if_same : (b : Bool) (xs ys : List Place) → (b ≡ false → xs ≡ ys) → (i
 if_same true xs ys same = refl
 if_same false xs ys same = same refl
 
-pub none_on : (b : Bool) (x : Option Fault) → (if b then None else x) ≡ None → b ≡ false → x ≡ None
-none_on true x none on = cc
-none_on false x none on = none
-
-pub past_end : (bytes : List ℕ) (at : ℕ) → length bytes ≤ at → is_past bytes at ≡ true
-past_end bytes at end = grind (arith, nat_tests, end)
+-- where a message begins, the end is not reached
+more : (bytes : List ℕ) (at : ℕ) → is_past bytes at ≡ false → at < length bytes
+more bytes at on = grind (arith, nat_tests, on)
 
 -- with enough steps left, how many there are makes no difference
 same_fault : (f g : ℕ) (bytes : List ℕ) (at : ℕ) → length bytes ≤ at + f → length bytes ≤ at + g → messages_fault f bytes at ≡ messages_fault g bytes at
@@ -40,36 +37,18 @@ same_fault (suc f) (suc g) bytes at h k =
     ap (λ (x : Option Fault). if is_past bytes at then None else x) rest
 
 same_places : (f g : ℕ) (bytes : List ℕ) (at : ℕ) → length bytes ≤ at + f → length bytes ≤ at + g → messages_fault f bytes at ≡ None → rndis_places f bytes at ≡ rndis_places g bytes at
-unfolding messages_fault rndis_places
+unfolding rndis_places
 same_places zero zero bytes at h k none = refl
 same_places zero (suc g) bytes at h k none = let t = past_end bytes at (omega arith) in rw t refl
 same_places (suc f) zero bytes at h k none = let t = past_end bytes at (omega arith) in rw t refl
 same_places (suc f) (suc g) bytes at h k none =
     let next = at + message_length bytes at in
     if_same (is_past bytes at) (message_frame bytes at ∷ rndis_places f bytes next) (message_frame bytes at ∷ rndis_places g bytes next) (λ on.
-    let both = none_or_else (message_fault bytes at) (messages_fault f bytes next) (none_on (is_past bytes at) _ none on) in
+    let both = none_or_else (message_fault bytes at) (messages_fault f bytes next) (sym (fault_next f bytes at on) ∙ none) in
     let least = (checked bytes at both.0).least in
     ap (λ (ps : List Place). message_frame bytes at ∷ ps) (same_places f g bytes next (omega (arith, h, least)) (omega (arith, k, least)) both.1))
 
--- one step of a walk
-fault_next : (left : ℕ) (bytes : List ℕ) (at : ℕ) → is_past bytes at ≡ false → messages_fault (suc left) bytes at ≡ or_else (message_fault bytes at) (messages_fault left bytes (at + message_length bytes at))
-unfolding messages_fault
-fault_next left bytes at on = rw on refl
-
-places_next : (left : ℕ) (bytes : List ℕ) (at : ℕ) → is_past bytes at ≡ false → rndis_places (suc left) bytes at ≡ message_frame bytes at ∷ rndis_places left bytes (at + message_length bytes at)
-unfolding rndis_places
-places_next left bytes at on = rw on refl
-
-fault_past : (left : ℕ) (bytes : List ℕ) (at : ℕ) → is_past bytes at ≡ true → messages_fault left bytes at ≡ None
-unfolding messages_fault
-fault_past zero bytes at end = refl
-fault_past (suc left) bytes at end = rw end refl
-
-pub places_past : (left : ℕ) (bytes : List ℕ) (at : ℕ) → is_past bytes at ≡ true → rndis_places left bytes at ≡ []
-unfolding rndis_places
-places_past zero bytes at end = refl
-places_past (suc left) bytes at end = rw end refl
-
+-- the first fault from a place on
 pub fault_start : (bytes : List ℕ) → fault_from bytes 0 ≡ rndis_fault bytes
 unfolding fault_from
 fault_start bytes = same_fault (length bytes - 0) (length bytes) bytes 0 (omega arith) (omega arith)
