@@ -2,3 +2,4 @@ mod Steps
 mod Reading
 mod Lending
 mod FrameSteps
+mod PlaceSteps

@@ -1,13 +1,18 @@
 -- A walk over the frames of a transfer, by a place that is kept apart from the bytes.
-use Rattle.std.specs.Prelude.{◌≡◌, ℕ, ◌<◌, List, length, true}
-use Rattle.un_frame.specs.Bytes.{number_at}
+use Rattle.std.specs.Prelude.{◌≡◌, ℕ, ◌-◌, ◌<◌, List, length, true}
+use Rattle.un_frame.specs.Bytes.{Place, number_at}
 use Rattle.un_frame.specs.Eem.{is_data, command_count}
+use Rattle.un_frame.specs.Places.{eem_places}
 use Rattle.un_eem.specs.Transfer.{frames_in}
 use Rattle.un_eem.specs.Walk.{IsSound, packets_from}
 
 -- the frames of the packets from a place on
 abbrev pub frames_from : List ℕ → ℕ → List (List ℕ)
 frames_from bytes at = frames_in (packets_from bytes at)
+
+-- where they stand
+abbrev pub places_from : List ℕ → ℕ → List Place
+places_from bytes at = eem_places (length bytes - at) bytes at
 
 -- the commands of a whole transfer
 abbrev pub commands_of : List ℕ → ℕ

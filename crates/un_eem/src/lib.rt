@@ -14,8 +14,8 @@
 //! ```
 //!
 //! `append` and `finish` write into a request that has the room. `read` lends every packet; `begin`, `part_at` and
-//! `next` walk over the frames alone, at a place that the owner of the bytes keeps beside them, and `commands` counts
-//! the commands. `read` and `begin` check the whole transfer before anything is lent.
+//! `next` walk over the frames alone, at a place that the owner of the bytes keeps beside them, `span_at` tells where
+//! one stands, and `commands` counts the commands. `read` and `begin` check the whole transfer before anything is lent.
 #![tactic(auto)]
 
 mod checks;
@@ -25,5 +25,5 @@ mod walk;
 mod writer;
 
 pub use items::{Item, Items, read};
-pub use walk::{begin, commands, next, part_at};
+pub use walk::{begin, commands, next, part_at, span_at};
 pub use writer::{append, finish};

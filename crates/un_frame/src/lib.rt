@@ -12,7 +12,7 @@
 //! ```
 //!
 //! By subject: `Params`, `Class`, `Lane` and `TIMER_TICKS` are what a link is made with; `verdict` and `address` judge
-//! a frame; `Fault` and `Kind` tell why a transfer is refused; `Phase`, `FaultKind` and `Planned` are words of
+//! a frame; `Fault` and `Kind` tell why a transfer is refused, and a `Span` where a frame stands in one; `Phase`, `FaultKind` and `Planned` are words of
 //! histories and scripts. Each other call does nothing: its contract is a law of the wire formats, which a crate above
 //! takes from here.
 #![tactic(auto)]
@@ -23,6 +23,7 @@ mod judge;
 mod kinds;
 mod laws;
 mod params;
+mod span;
 
 pub use bytes::Bytes;
 pub use fault::{Fault, Kind};
@@ -33,3 +34,4 @@ pub use laws::{
     readings_are_one, segments_fit, taken_frames,
 };
 pub use params::{Class, Lane, Params, TIMER_TICKS};
+pub use span::Span;
