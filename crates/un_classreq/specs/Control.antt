@@ -4,7 +4,7 @@ use Rattle.std.specs.Prelude.{◌≡◌, ℕ, Bool, true, false, ◌&&◌, ◌||
 use Rattle.un_facts.specs.Results.{◌>>=◌, needs, given}
 use Rattle.un_frame.specs.declared.params.Params.{Params}
 use Rattle.un_frame.specs.declared.params.Class.{Class}
-use Rattle.un_frame.specs.declared.params.Class.TheVariants.{Ecm, Eem}
+use Rattle.un_frame.specs.declared.params.Class.TheVariants.{Ecm, Eem, Rndis}
 use Rattle.un_classreq.specs.declared.setup.Setup.{Setup}
 use Rattle.un_classreq.specs.declared.request.Request.{Request}
 use Rattle.un_classreq.specs.declared.request.Classes.{Classes}
@@ -41,9 +41,11 @@ first_gadget p = record { params = p; state = first_state p }
 abbrev pub serves : Classes → Class → Bool
 serves All class = true
 serves EcmAndNcm Eem = false
+serves EcmAndNcm Rndis = false
 serves EcmAndNcm class = true
 serves NcmAlone Ecm = false
 serves NcmAlone Eem = false
+serves NcmAlone Rndis = false
 serves NcmAlone class = true
 
 -- whether a set-up packet tells this request, of a class that has it

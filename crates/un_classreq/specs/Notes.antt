@@ -2,7 +2,7 @@
 use Rattle.std.specs.Prelude.{ℕ, List, [], ◌∷◌, ◌++◌, ◌==◌, if◌then◌else◌}
 use Rattle.un_frame.specs.Bytes.{number_bytes}
 use Rattle.un_frame.specs.declared.params.Class.{Class}
-use Rattle.un_frame.specs.declared.params.Class.TheVariants.{Eem}
+use Rattle.un_frame.specs.declared.params.Class.TheVariants.{Eem, Rndis}
 use Rattle.un_classreq.specs.Setup.{packet, setup_bytes}
 use Rattle.un_classreq.specs.Control.{Gadget}
 
@@ -17,9 +17,10 @@ speed_change = setup_bytes (packet 0xa1 0x2a 0 0 8) ++ number_bytes 4 BIT_RATE +
 abbrev pub connected : List ℕ
 connected = setup_bytes (packet 0xa1 0x00 1 0 0)
 
--- EEM has no endpoint for notifications
+-- EEM has no endpoint for notifications, and no device of RNDIS is made
 abbrev pub notes_as : Class → List (List ℕ)
 notes_as Eem = []
+notes_as Rndis = []
 notes_as class = speed_change ∷ connected ∷ []
 
 abbrev pub notes_of : Gadget → List (List ℕ)

@@ -3,7 +3,7 @@
 ghost use Rattle.std.specs.Prelude.{◌≡◌, IfOk};
 ghost use Rattle.un_classreq.specs.Control.{judged};
 ghost use Rattle.un_classreq.specs.Requests.{row};
-ghost use Rattle.un_desc.specs.Configuration.{configuration};
+ghost use Rattle.un_desc.specs.Configuration.{IsDescribed, configuration};
 ghost use Rattle.un_frame.specs.Params.{AreInRange};
 
 use crate::bytes::{push_long, push_short};
@@ -128,9 +128,11 @@ impl Device {
     ghost use Rattle.un_classreq.specs.Notes.{notes_of};
 
     /// A device with these parameters, which are in their ranges: with its configuration at hand and in no configuration,
-    /// setting 0, filter 0, format 0, and the sizes of the parameters. An error is want of memory.
+    /// setting 0, filter 0, format 0, and the sizes of the parameters. The class isn't RNDIS, whose control messages stay out of
+    /// this project. An error is want of memory.
     pub fn make(alloc: Global, params: &Params) -> Result<Device, AllocError>
-        requires { AreInRange params.now }
+        requires range { AreInRange params.now }
+        requires described { IsDescribed params.now.class }
         ensures { IfOk result (λ d. d ≡ first_gadget params.now) }
     {
         let descriptors = un_desc::build(alloc, params)?;
@@ -187,7 +189,7 @@ impl Device {
             return Ok(Vec::new(alloc));
         }
         match self.params.class {
-            Class::Eem => Ok(Vec::new(alloc)),
+            Class::Eem | Class::Rndis => Ok(Vec::new(alloc)),
             Class::Ecm | Class::Ncm16 | Class::Ncm32 => connection(alloc),
         }
     }

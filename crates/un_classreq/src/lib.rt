@@ -2,7 +2,7 @@
 //! NCM 1.0 that the device answers, and its notifications.
 //!
 //! ```text
-//! let mut device = Device::make(alloc, &params)?;                     // in no configuration
+//! let mut device = Device::make(alloc, &params)?;                     // in no configuration; not of RNDIS
 //! let asked = Setup::from_bytes(&[0xa1, 0x80, 0, 0, 0, 0, 28, 0]);    // GET_NTB_PARAMETERS, 28 bytes at most
 //! match device.control(alloc, &asked, &[]) {                          // no bytes follow to the device
 //!     Reply::Sent(bytes) => ..            // it is done, and these go to the host

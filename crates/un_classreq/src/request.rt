@@ -78,7 +78,7 @@ impl Classes {
     {
         match self {
             Classes::All => true,
-            Classes::EcmAndNcm => class != Class::Eem,
+            Classes::EcmAndNcm => class != Class::Eem && class != Class::Rndis,
             Classes::NcmAlone => class == Class::Ncm16 || class == Class::Ncm32,
         }
     }

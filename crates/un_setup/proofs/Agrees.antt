@@ -8,7 +8,7 @@ use Rattle.un_frame.specs.Blocks.{BlocksAgree}
 use Rattle.un_frame.specs.Params.{AgreeAs}
 use Rattle.un_frame.specs.declared.params.Params.{Params}
 use Rattle.un_frame.specs.declared.params.Class.{Class}
-use Rattle.un_frame.specs.declared.params.Class.TheVariants.{Ecm, Eem, Ncm16, Ncm32}
+use Rattle.un_frame.specs.declared.params.Class.TheVariants.{Ecm, Eem, Ncm16, Ncm32, Rndis}
 use Rattle.un_setup.specs.declared.agreement.SetupFault.{SetupFault}
 use Rattle.un_setup.specs.declared.agreement.SetupFault.TheVariants.{BadDivisor, BadAlignment, NoFit, NoMemory}
 use Rattle.un_setup.specs.Agreement.{◌>>=◌, needs, has_divisor, has_alignment, holds_one, blocks_tested, tested_as, agreed_of, Fails, Refuses}
@@ -59,12 +59,14 @@ tests_pass Ecm p h = tt
 tests_pass Eem p h = tt
 tests_pass Ncm16 p h = blocks_pass ntb16 p h
 tests_pass Ncm32 p h = blocks_pass ntb32 p h
+tests_pass Rndis p h = tt
 
 pub tests_fail : (class : Class) (p : Params) (e : SetupFault) → tested_as class p ≡ Err e → AgreeAs class p → ⊥
 tests_fail Ecm p e h agree = cc
 tests_fail Eem p e h agree = cc
 tests_fail Ncm16 p e h agree = blocks_fail ntb16 p e h agree
 tests_fail Ncm32 p e h agree = blocks_fail ntb32 p e h agree
+tests_fail Rndis p e h agree = cc
 
 -- no test wants memory
 not_memory : (a b c : Bool) (d r al s bl : ℕ) → (needs (BadDivisor d r) a >>= λ _. (needs (BadAlignment al) b >>= λ _. needs (NoFit s bl) c)) ≡ Err NoMemory → ⊥
@@ -82,6 +84,7 @@ tests_not_memory Ecm p h = cc
 tests_not_memory Eem p h = cc
 tests_not_memory Ncm16 p h = blocks_not_memory ntb16 p h
 tests_not_memory Ncm32 p h = blocks_not_memory ntb32 p h
+tests_not_memory Rndis p h = cc
 
 pub refused : (p : Params) (e : SetupFault) → tested_as p.class p ≡ Err e → Fails e (agreed_of p)
 unfolding agreed_of

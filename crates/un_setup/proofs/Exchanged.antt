@@ -1,5 +1,5 @@
 -- A device with parameters in range answers each step of the host.
-use Rattle.std.proofs.Common.{◌≡◌, ℕ, zero, suc, ◌+◌, ◌^◌, ◌<◌, ◌≤◌, true, false, nat_le, ◌==◌, List, [], ◌∷◌, ◌++◌, length, take, drop, get_or, map, Result, Ok, Err, IsOk, refl, sym, ap, ◌∙◌, arith}
+use Rattle.std.proofs.Common.{◌≡◌, ℕ, zero, suc, ◌+◌, ◌^◌, ◌<◌, ◌≤◌, true, false, nat_le, ◌==◌, List, [], ◌∷◌, ◌++◌, length, take, drop, get_or, map, Result, Ok, Err, IsOk, refl, sym, ap, subst, ◌∙◌, arith}
 use Rattle.std.proofs.Math.Seq.{take-suc}
 use Rattle.std.proofs.lemmas.Bool.Decides.{nat_tests}
 use Rattle.std.proofs.lemmas.List.{take-append-drop}
@@ -10,10 +10,10 @@ use Rattle.un_frame.specs.Bytes.{number_at, number_bytes}
 use Rattle.un_frame.specs.Params.{AreInRange}
 use Rattle.un_frame.specs.declared.params.Params.{Params}
 use Rattle.un_frame.specs.declared.params.Class.{Class}
-use Rattle.un_frame.specs.declared.params.Class.TheVariants.{Ecm, Eem, Ncm16, Ncm32}
+use Rattle.un_frame.specs.declared.params.Class.TheVariants.{Ecm, Eem, Ncm16, Ncm32, Rndis}
 use Rattle.un_desc.specs.declared.function.Function.{Function}
 use Rattle.un_desc.specs.Reading.{function_of}
-use Rattle.un_desc.specs.Configuration.{configuration, configuration_as}
+use Rattle.un_desc.specs.Configuration.{IsDescribed, configuration, configuration_as, function_as}
 use Rattle.un_classreq.specs.declared.state.State.{State}
 use Rattle.un_classreq.specs.declared.request.Classes.TheVariants.{EcmAndNcm, NcmAlone}
 use Rattle.un_classreq.specs.declared.device.Why.{Why}
@@ -24,7 +24,7 @@ use Rattle.un_setup.specs.declared.exchange.Exchange.{Exchange}
 use Rattle.un_setup.specs.declared.exchange.ExchangeFault.{ExchangeFault}
 use Rattle.un_setup.specs.declared.exchange.ExchangeFault.TheVariants.{Stalled, NoMemory}
 use Rattle.un_setup.specs.Exchanges.{exchange, get_descriptor, set_configuration, set_interface, set_filter, get_parameters, set_format, set_input_size, set_datagram_size, ncm_steps, ncm_exchanges, exchanges_as, exchanges_of, host_side, crossed, Crossing, crossing, Session, with_first, exchanged, Stalls, ready_as, ready, steps_of, ExchangeSucceeds}
-use Rattle.un_setup.specs.Agreement.{ReadsFirst}
+use Rattle.un_setup.specs.Agreement.{IsRead, IsSetUp, ReadsFirst}
 
 abbrev at : Params → State → Gadget
 at p s = record { params = p; state = s }
@@ -45,6 +45,7 @@ short_as Ecm p = omega arith
 short_as Eem p = omega arith
 short_as Ncm16 p = omega arith
 short_as Ncm32 p = omega arith
+short_as Rndis p = omega arith
 
 short : (p : Params) → length (configuration p) ≤ 255
 unfolding configuration
@@ -166,6 +167,7 @@ small_as Ecm p h = omega arith
 small_as Eem p h = omega arith
 small_as Ncm16 p h = omega arith
 small_as Ncm32 p h = omega arith
+small_as Rndis p h = omega arith
 
 -- the state that NCM's steps leave
 abbrev ncm_state : Params → ℕ → State
@@ -185,15 +187,29 @@ law_as Ecm p e range =
 law_as Eem p e range = first_two p (first_state p) (ready_as Eem p) _ _ (none p (record (first_state p) { configuration = 1; setting = 0 }))
 law_as Ncm16 p e range = ncm_law p 0 (ap (serves NcmAlone) e) (ap (serves EcmAndNcm) e) (ap (λ (class : Class). nat_le 0 (last_format class)) e) range
 law_as Ncm32 p e range = ncm_law p 1 (ap (serves NcmAlone) e) (ap (serves EcmAndNcm) e) (ap (λ (class : Class). nat_le 1 (last_format class)) e) range
+law_as Rndis p e range = none p (first_state p)
 
 told_as : (class : Class) (p : Params) → p.class ≡ class → notes_of (at p (ready_as class p)) ≡ notes_as class
 told_as Ecm p e = ap notes_as e
 told_as Eem p e = refl
 told_as Ncm16 p e = ap notes_as e
 told_as Ncm32 p e = ap notes_as e
+told_as Rndis p e = refl
 
 pub exchange_succeeds : (p : Params) → AreInRange p → ExchangeSucceeds p
 exchange_succeeds p range = record { crossed = law_as p.class p refl range; told = told_as p.class p refl }
+
+-- in RNDIS there is no step, and the function is known by the parameters
+at_once : (p : Params) → p.class ≡ Rndis → IsSetUp p (record { params = p; function = function_as Rndis p; exchanges = []; notes = [] })
+at_once p h = record {
+  params = refl;
+  crossed = subst (λ (class : Class). exchanged (first_gadget p) (map host_side (exchanges_as class p)) ≡ session p (ready_as class p) []) (sym h) (none p (first_state p));
+  read = subst (λ (class : Class). IsRead class p [] (function_as Rndis p)) (sym h) (ap (λ (class : Class). function_as class p) (sym h));
+  told = subst (λ (class : Class). [] ≡ notes_of (at p (ready_as class p))) (sym h) refl;
+}
+
+pub set_up_at_once : (p : Params) (es : List Exchange) (notes : List (List ℕ)) → p.class ≡ Rndis → es ≡ [] → notes ≡ [] → IsSetUp p (record { params = p; function = function_as Rndis p; exchanges = es; notes = notes })
+set_up_at_once p es notes h e f = rw (e, f) (at_once p h)
 
 item : (xs : List Exchange) (i : ℕ) (x : Exchange) → i < length xs → x ≡ get_or xs i x → drop i xs ≡ x ∷ drop (suc i) xs
 item [] i x h e = absurd (omega arith)
@@ -295,21 +311,29 @@ all_crossed p range g h steps es new host is =
     let same : record { gadget = h; exchanges = es } ≡ record { gadget = ready p; exchanges = exchanges_of p } = cc in
     (ap (λ (s : Session). s.gadget) same, ap (λ (s : Session). s.exchanges) same)
 
--- the configuration crosses first
+-- the configuration crosses first, where there is one
 pub record BeginsWith (bytes : List ℕ) (es : List Exchange) : Type 0 where
   pub some : 0 < length es
   pub first : (d : Exchange) → (get_or es 0 d).payload ≡ bytes
 
-first_as : (class : Class) (p : Params) → BeginsWith (configuration p) (exchanges_as class p)
-first_as Ecm p = record { some = omega arith; first = λ d. refl }
-first_as Eem p = record { some = omega arith; first = λ d. refl }
-first_as Ncm16 p = record { some = omega arith; first = λ d. refl }
-first_as Ncm32 p = record { some = omega arith; first = λ d. refl }
+first_as : (class : Class) (p : Params) → IsDescribed class → BeginsWith (configuration p) (exchanges_as class p)
+first_as Ecm p h = record { some = omega arith; first = λ d. refl }
+first_as Eem p h = record { some = omega arith; first = λ d. refl }
+first_as Ncm16 p h = record { some = omega arith; first = λ d. refl }
+first_as Ncm32 p h = record { some = omega arith; first = λ d. refl }
+first_as Rndis p h = absurd h
 
-pub first_crossed : (p : Params) (es : List Exchange) → es ≡ exchanges_of p → BeginsWith (configuration p) es
-first_crossed p es e = rw e (first_as p.class p)
+pub first_crossed : (p : Params) → IsDescribed p.class → (es : List Exchange) → es ≡ exchanges_of p → BeginsWith (configuration p) es
+first_crossed p h es e = rw e (first_as p.class p h)
 
 -- the function is read from it
 pub reads_first : (es : List Exchange) (e : Exchange) (f : Function) → 0 < length es → function_of (get_or es 0 e).payload ≡ Ok f → ReadsFirst es f
 reads_first [] e f h read = absurd (omega arith)
 reads_first (x ∷ xs) e f h read = read
+
+pub is_read : (class : Class) (p : Params) (es : List Exchange) (f : Function) → IsDescribed class → ReadsFirst es f → IsRead class p es f
+is_read Ecm p es f h read = read
+is_read Eem p es f h read = read
+is_read Ncm16 p es f h read = read
+is_read Ncm32 p es f h read = read
+is_read Rndis p es f h read = absurd h

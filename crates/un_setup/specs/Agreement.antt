@@ -7,7 +7,7 @@ use Rattle.un_frame.specs.Blocks.{layout_of}
 use Rattle.un_frame.specs.Params.{Agree}
 use Rattle.un_frame.specs.declared.params.Params.{Params}
 use Rattle.un_frame.specs.declared.params.Class.{Class}
-use Rattle.un_frame.specs.declared.params.Class.TheVariants.{Ecm, Eem, Ncm16, Ncm32}
+use Rattle.un_frame.specs.declared.params.Class.TheVariants.{Ecm, Eem, Ncm16, Ncm32, Rndis}
 use Rattle.un_desc.specs.Configuration.{function}
 use Rattle.un_setup.specs.declared.agreement.Agreed.{Agreed}
 use Rattle.un_setup.specs.declared.agreement.SetupFault.{SetupFault}
@@ -44,12 +44,13 @@ blocks_tested f p = do
   alignment ← needs (BadAlignment p.alignment) (has_alignment p)
   needs (NoFit p.segment p.block) (holds_one f p)
 
--- ECM and EEM have no blocks, and always agree
+-- ECM, EEM and RNDIS have no blocks, and always agree
 abbrev pub tested_as : Class → Params → Result (Unit {0}) SetupFault
 tested_as Ecm p = Ok tt
 tested_as Eem p = Ok tt
 tested_as Ncm16 p = blocks_tested ntb16 p
 tested_as Ncm32 p = blocks_tested ntb32 p
+tested_as Rndis p = Ok tt
 
 -- what is agreed on
 abbrev pub agreement : Params → Agreed
@@ -70,12 +71,17 @@ abbrev pub ReadsFirst : List Exchange → Function → Type 0
 ReadsFirst [] f = ⊥
 ReadsFirst (e ∷ es) f = function_of e.payload ≡ Ok f
 
+-- in RNDIS, which has no exchanges, it is the one that the parameters say
+abbrev pub IsRead : Class → Params → List Exchange → Function → Type 0
+IsRead Rndis p exchanges f = f ≡ function p
+IsRead class p exchanges f = ReadsFirst exchanges f
+
 -- where it comes from: a new device answers the host's steps in turn, these are the exchanges, the function is read from
 -- the first of them, and the notifications are those of the device after the last
 pub record IsSetUp (p : Params) (a : Agreed) : Type 0 where
   pub params : a.params ≡ p
   pub crossed : exchanged (first_gadget p) (steps_of p) ≡ Ok (record { gadget = ready p; exchanges = a.exchanges })
-  pub read : ReadsFirst a.exchanges a.function
+  pub read : IsRead p.class p a.exchanges a.function
   pub told : a.notes ≡ notes_of (ready p)
 
 -- a call answers that; it wants memory only where there is an agreement

@@ -5,7 +5,7 @@ use Rattle.un_facts.specs.Results.{◌>>=◌}
 use Rattle.un_frame.specs.Bytes.{number_bytes}
 use Rattle.un_frame.specs.declared.params.Params.{Params}
 use Rattle.un_frame.specs.declared.params.Class.{Class}
-use Rattle.un_frame.specs.declared.params.Class.TheVariants.{Ecm, Eem, Ncm16, Ncm32}
+use Rattle.un_frame.specs.declared.params.Class.TheVariants.{Ecm, Eem, Ncm16, Ncm32, Rndis}
 use Rattle.un_desc.specs.Configuration.{configuration}
 use Rattle.un_classreq.specs.declared.setup.Setup.{Setup}
 use Rattle.un_classreq.specs.declared.device.Why.{Why}
@@ -50,7 +50,8 @@ set_input_size = packet 0x21 0x86 0 0 4
 abbrev pub set_datagram_size : Setup
 set_datagram_size = packet 0x21 0x88 0 0 2
 
--- The exchanges of each class, with the bytes that cross in either direction.
+-- The exchanges of each class, with the bytes that cross in either direction. RNDIS has none: its control messages stay out
+-- of this project.
 abbrev pub ncm_exchanges : ℕ → Params → List Exchange
 ncm_exchanges format p =
     exchange get_descriptor (configuration p)
@@ -73,6 +74,7 @@ exchanges_as Ecm p =
 exchanges_as Eem p = exchange get_descriptor (configuration p) ∷ exchange set_configuration [] ∷ []
 exchanges_as Ncm16 p = ncm_exchanges 0 p
 exchanges_as Ncm32 p = ncm_exchanges 1 p
+exchanges_as Rndis p = []
 
 abbrev pub exchanges_of : Params → List Exchange
 exchanges_of p = exchanges_as p.class p
@@ -143,9 +145,10 @@ abbrev pub Stalls : {A : Type 0} → Result A Why → ExchangeFault → Type 0
 Stalls answer (Stalled why) = answer ≡ Err why
 Stalls answer NoMemory = Unit {0}
 
--- the state that the steps of each class leave
+-- the state that the steps of each class leave; those of RNDIS, which are none, leave the first
 abbrev pub ready_as : Class → Params → State
 ready_as Eem p = record (first_state p) { configuration = 1 }
+ready_as Rndis p = first_state p
 ready_as Ncm32 p = record (first_state p) { configuration = 1; setting = 1; filter = p.filter; format = 1 }
 ready_as class p = record (first_state p) { configuration = 1; setting = 1; filter = p.filter }
 

@@ -10,9 +10,9 @@ use un_frame::Params;
 pub struct Agreed {
     /// The parameters, which agree.
     pub params: Params,
-    /// The function that the host read from the configuration.
+    /// The function that the host read from the configuration; in RNDIS the one that the parameters say.
     pub function: Function,
-    /// What crossed the control endpoint.
+    /// What crossed the control endpoint; in RNDIS, whose control messages stay out of this project, nothing.
     pub exchanges: Exchanges,
     /// The notifications that the device sent after it.
     pub notes: Notes,

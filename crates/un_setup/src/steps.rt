@@ -128,7 +128,7 @@ fn ncm(
     Ok(steps)
 }
 
-/// What the host sends to a device of these parameters.
+/// What the host sends to a device of these parameters; in RNDIS, whose control messages stay out of this project, nothing.
 pub fn steps(alloc: Global, params: &Params) -> Result<Vec<Exchange>, AllocError>
     requires { AreInRange params.now }
     ensures { IfOk result (λ v. v.items ≡ steps_of params.now) }
@@ -139,5 +139,6 @@ pub fn steps(alloc: Global, params: &Params) -> Result<Vec<Exchange>, AllocError
         Class::Eem => eem(alloc),
         Class::Ncm16 => ncm(alloc, 0, params.block, segment, params.filter),
         Class::Ncm32 => ncm(alloc, 1, params.block, segment, params.filter),
+        Class::Rndis => Ok(Vec::new(alloc)),
     }
 }

@@ -76,13 +76,13 @@ fn test_blocks(params: &Params, header: u32, head: u32, pair: u32) -> Result<(),
     Ok(())
 }
 
-/// Tests the parameters of a link: those of NCM by the format of its blocks, and those of ECM and EEM not at all.
+/// Tests the parameters of a link: those of NCM by the format of its blocks, and those of the other classes not at all.
 pub fn test(params: &Params) -> Result<(), SetupFault>
     requires { AreInRange params.now }
     ensures { result ≡ tested_as params.now.class params.now }
 {
     match params.class {
-        Class::Ecm | Class::Eem => Ok(()),
+        Class::Ecm | Class::Eem | Class::Rndis => Ok(()),
         Class::Ncm16 => test_blocks(params, 12, 8, 4),
         Class::Ncm32 => test_blocks(params, 16, 16, 8),
     }
