@@ -4,6 +4,8 @@ use Rattle.un_frame.specs.declared.params.Class.TheVariants.{Ncm16, Ncm32}
 use Rattle.un_frame.specs.Bytes.{Place}
 use Rattle.un_frame.specs.Ntb.{Format, NtbReads, ntb_fault, ntb16, ntb32}
 use Rattle.un_frame.specs.Params.{most_block}
+use Rattle.un_frame.specs.Parts.{places_as}
+use Rattle.un_frame.specs.Places.{ntb_places}
 use Rattle.un_frame.specs.Wire.{ReadsAt, fault_of}
 use Rattle.un_frame.proofs.NtbLemmas.{IsFormat}
 use Rattle.un_frame.proofs.NtbCursorLemmas.{ntb16_known, ntb32_known}
@@ -47,6 +49,13 @@ class_reads width bytes places r = by_test (width == 2) r where
 pub class_fault : (width : ℕ) (bytes : List ℕ) → fault_of (class_of width) bytes ≡ ntb_fault (format_of width) bytes
 class_fault width bytes = by_test (width == 2) where
   by_test : (t : Bool) → fault_of (if t then Ncm16 else Ncm32) bytes ≡ ntb_fault (if t then ntb16 else ntb32) bytes
+  by_test true = refl
+  by_test false = refl
+
+-- where its frames stand
+pub class_places : (width : ℕ) (bytes : List ℕ) → ntb_places (format_of width) bytes ≡ places_as (class_of width) bytes
+class_places width bytes = by_test (width == 2) where
+  by_test : (t : Bool) → ntb_places (if t then ntb16 else ntb32) bytes ≡ places_as (if t then Ncm16 else Ncm32) bytes
   by_test true = refl
   by_test false = refl
 

@@ -15,13 +15,14 @@ ghost use Rattle.un_frame.specs.Ntb.{
   table_fault,
   tables_fault,
 };
+ghost use Rattle.un_frame.specs.Spans.{place_of};
 ghost use Rattle.un_ntb.specs.Formats.{format_of};
 
 use crate::fields::{
     MOST_TABLES, block_signature, head, header, is_checked, ndp_index, next_ndp_index, number,
     pair, short, signature, table_signature, width,
 };
-use un_frame::{Fault, Kind};
+use un_frame::{Fault, Kind, Span};
 
 /// A fault of this kind at this place.
 fn fault(kind: Kind, at: usize) -> Fault
@@ -59,6 +60,7 @@ fn check_header<const WIDTH: usize>(bytes: &[u8]) -> Result<(), Fault>
 pub fn block<const WIDTH: usize>(bytes: &[u8]) -> &[u8]
     requires { IsHeader (format_of WIDTH) bytes.now }
     ensures block { result.now ≡ block_of (format_of WIDTH) bytes.now }
+    ensures within { length result.now ≤ length bytes.now }
     ensures room { (format_of WIDTH).header ≤ length result.now }
 {
     let length = number::<WIDTH>(bytes, 8);
@@ -175,13 +177,24 @@ pub fn check<const WIDTH: usize>(bytes: &[u8]) -> Result<(), Fault>
     check_tables::<WIDTH>(block::<WIDTH>(bytes))
 }
 
+/// Where the datagram stands that the pair at a place names: at the same place in the block and in the transfer.
+pub fn span_of<const WIDTH: usize>(block: &[u8], at: usize) -> Span
+    requires room { at + (format_of WIDTH).pair ≤ length block.now }
+    requires inside { IsDatagram (format_of WIDTH) block.now (pair_at (format_of WIDTH) block.now at) }
+    ensures place { place_of result ≡ pair_at (format_of WIDTH) block.now at }
+    ensures inside { result.at + result.size ≤ length block.now }
+{
+    Span {
+        at: number::<WIDTH>(block, at),
+        size: number::<WIDTH>(block, at + width::<WIDTH>()),
+    }
+}
+
 /// The datagram that the pair at a place names.
 pub fn datagram<const WIDTH: usize>(block: &[u8], at: usize) -> &[u8]
     requires room { at + (format_of WIDTH).pair ≤ length block.now }
     requires inside { IsDatagram (format_of WIDTH) block.now (pair_at (format_of WIDTH) block.now at) }
     ensures { result.now ≡ slice_at block.now (pair_at (format_of WIDTH) block.now at) }
 {
-    let start = number::<WIDTH>(block, at);
-    let size = number::<WIDTH>(block, at + width::<WIDTH>());
-    &block[start..start + size]
+    span_of::<WIDTH>(block, at).of(block)
 }

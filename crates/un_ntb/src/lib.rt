@@ -12,8 +12,8 @@
 //!
 //! A `Writer` writes by `start`, `append` and `close`; `fits`, `count` and `most` change nothing, and no call after
 //! `make` takes memory. `read` lends the datagrams in turn; `begin`, `part_at` and `next` walk over them with a
-//! `Cursor`, which the owner of the bytes keeps beside them. `read` and `begin` check the whole transfer before
-//! anything is lent.
+//! `Cursor`, which the owner of the bytes keeps beside them, and `span_at` tells where one stands. `read` and `begin`
+//! check the whole transfer before anything is lent.
 #![tactic(auto)]
 
 mod checks;
@@ -26,5 +26,5 @@ mod writer;
 
 pub use cursor::Cursor;
 pub use parts::{Parts, read};
-pub use walk::{begin, next, part_at};
+pub use walk::{begin, next, part_at, span_at};
 pub use writer::Writer;

@@ -102,3 +102,7 @@ places_on bytes at next on sound same =
     let behind = (next_on bytes at n on sound refl).none in
     same_places (length bytes - at) (suc left) bytes at (omega arith) (omega (arith, some)) sound.none ∙ places_next left bytes at on
     ∙ ap (λ (ps : List Place). message_frame bytes at ∷ ps) (same_places left (length bytes - n) bytes n (omega (arith, some, least)) (omega arith) (whole ∙ behind) ∙ ap (λ (m : ℕ). rndis_places (length bytes - m) bytes m) (sym same))
+
+pub places_start : (bytes : List ℕ) → places_from bytes 0 ≡ rndis_places (length bytes) bytes 0
+unfolding places_from
+places_start bytes = ap (λ (n : ℕ). rndis_places n bytes 0) (omega arith)

@@ -9,8 +9,8 @@
 //! ```
 //!
 //! `append` writes into an empty request that has the room. `read` lends every frame; `begin`, `part_at` and `next` walk
-//! over the frames at a place that the owner of the bytes keeps beside them. `read` and `begin` check the whole transfer
-//! before anything is lent.
+//! over the frames at a place that the owner of the bytes keeps beside them, and `span_at` tells where one stands. `read`
+//! and `begin` check the whole transfer before anything is lent.
 #![tactic(auto)]
 
 mod checks;
@@ -20,5 +20,5 @@ mod walk;
 mod writer;
 
 pub use messages::{Messages, read};
-pub use walk::{begin, next, part_at};
+pub use walk::{begin, next, part_at, span_at};
 pub use writer::append;

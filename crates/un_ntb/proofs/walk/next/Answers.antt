@@ -17,3 +17,11 @@ returns-clause-one g c =
     let same = rw (c.pair.ensures.value, c.block.ensures.block) at c.skip_ended.ensures.same in
     let first = left_next (format_of g.row.WIDTH) block at.pair at.pairs at.table at.tables (at.pairs - 1) (omega arith) (c.requires.datagram (omega arith)) in
     ap (map (slice_at block)) same ∙ sym (ap (λ (places : List Place). drop 1 (map (slice_at block) places)) first)
+
+pub returns-clause-places : goal.returns-clause-places
+returns-clause-places g c =
+    let at = c.args.cursor in
+    let block = block_of (format_of g.row.WIDTH) c.args.bytes.now in
+    let same = rw (c.pair.ensures.value, c.block.ensures.block) at c.skip_ended.ensures.same in
+    let first = left_next (format_of g.row.WIDTH) block at.pair at.pairs at.table at.tables (at.pairs - 1) (omega arith) (c.requires.datagram (omega arith)) in
+    same ∙ sym (ap (λ (places : List Place). drop 1 places) first)

@@ -1,6 +1,6 @@
 use Rattle.std.proofs.Common.{arith}
 use Rattle.un_rndis.proofs.Steps.{first_checked}
-use Rattle.un_rndis.proofs.walk.frame_at.Goals as goal
+use Rattle.un_rndis.proofs.walk.span_of.Goals as goal
 
 pub number-requires : goal.number-requires
 number-requires c =
@@ -12,8 +12,8 @@ number-requires-2 c =
     let header = (first_checked c.args.bytes.now c.args.at c.requires.more c.requires.on).header in
     omega (arith, header)
 
-pub slice_bounds-result-end : goal.slice_bounds-result-end
-slice_bounds-result-end c =
+pub returns-clause-inside : goal.returns-clause-inside
+returns-clause-inside c =
     let first = first_checked c.args.bytes.now c.args.at c.requires.more c.requires.on in
     let inside = first.inside in
     let whole = first.whole in
