@@ -1,5 +1,5 @@
 -- The laws of EEM.
-use Rattle.std.proofs.Common.{◌≡◌, ℕ, zero, suc, ◌+◌, ◌*◌, ◌%◌, ◌<◌, ◌≤◌, ◌==◌, ◌&&◌, ◌||◌, Bool, true, false, nat_le, max, if◌then◌else◌, List, [], ◌∷◌, ◌++◌, length, take, drop, map, flat_map, IsTrue, refl, sym, ap, ◌∙◌, subst, arith, append-nil, append_assoc, length-append}
+use Rattle.std.proofs.Common.{◌≡◌, ℕ, zero, suc, ◌+◌, ◌*◌, ◌%◌, ◌<◌, ◌≤◌, ◌==◌, ◌||◌, Bool, true, false, nat_le, if◌then◌else◌, List, [], ◌∷◌, ◌++◌, length, map, flat_map, IsTrue, refl, sym, ap, ◌∙◌, subst, arith, append-nil, append_assoc, length-append}
 use Rattle.std.proofs.lemmas.Bool.{and_parts, leb-true}
 use Rattle.std.proofs.lemmas.Bool.Decides.{nat_tests}
 use Rattle.std.proofs.lemmas.List.{length-map}
@@ -7,7 +7,7 @@ use Rattle.std.proofs.lemmas.List.Sums.{sum_by-cons}
 use Rattle.std.proofs.Math.Nat.{le-max_right}
 use Rattle.std.specs.List.{AllByRecursion, sum_by}
 use Rattle.un_frame.specs.declared.params.Params.{Params}
-use Rattle.un_frame.specs.Bytes.{Place, number_at, number_bytes, slice_at}
+use Rattle.un_frame.specs.Bytes.{Place, number_at, number_bytes}
 use Rattle.un_frame.specs.Classes.{eem, eem_capacity}
 use Rattle.un_frame.specs.Eem.{Packet, Data, Command, Empty, SENTINEL, IsPacket, packet_bytes, frame_places, command_count, is_data, packet_size, packets_size, packets_fit, eem_form}
 use Rattle.un_frame.specs.Places.{eem_places, spaced_places}

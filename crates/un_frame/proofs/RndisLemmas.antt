@@ -1,6 +1,6 @@
 -- A transfer of RNDIS has no fault exactly where it is messages one after the other and what may follow them, and the walk
 -- over its messages finds their frames.
-use Rattle.std.proofs.Common.{◌≡◌, ℕ, zero, suc, ◌+◌, ◌-◌, ◌<◌, ◌≤◌, Bool, true, false, not, ◌||◌, nat_lt, ◌==◌, if◌then◌else◌, List, [], ◌∷◌, ◌++◌, length, take, drop, Option, Some, None, refl, sym, ap, ◌∙◌, subst, arith, append_assoc, length-append, length-drop, length-take, drop-drop, take-append-drop, take_at, drop_at}
+use Rattle.std.proofs.Common.{◌≡◌, ℕ, zero, suc, ◌+◌, ◌-◌, ◌<◌, ◌≤◌, Bool, true, false, not, ◌||◌, nat_lt, ◌==◌, List, [], ◌∷◌, ◌++◌, length, take, drop, Option, Some, None, refl, sym, ap, ◌∙◌, subst, arith, append_assoc, length-append, length-drop, length-take, drop-drop, take-append-drop, take_at, drop_at}
 use Rattle.std.proofs.lemmas.Bool.Decides.{nat_tests}
 use Rattle.std.proofs.lemmas.List.{nil_from_length}
 use Rattle.std.specs.List.{AllByRecursion, concat}
@@ -187,10 +187,6 @@ module _ (bytes : List ℕ) (at : ℕ) (c : IsChecked bytes at) where
         ap (λ (p : Place). p ∷ places) (frame_here bytes at first (numbers_of bytes at (message_length bytes at) first c.least refl))
         ∙ ap (λ (ps : List Place). record { at = at + 8 + data_offset first 0; size = data_length first 0 } ∷ ps) (s.frames ∙ ap (λ (n : ℕ). message_places (at + n) s.messages) (sym long));
   }
-
-none_on : (b : Bool) (x : Option Fault) → (if b then None else x) ≡ None → b ≡ false → x ≡ None
-none_on true x none on = cc
-none_on false x none on = none
 
 -- the messages from a place on, so many at most
 split_by : (left : ℕ) (bytes : List ℕ) (at : ℕ) (b : Bool) → is_past bytes at ≡ b → messages_fault (suc left) bytes at ≡ None
