@@ -27,7 +27,7 @@ fn block_of(params: &Params) -> u32
     ensures { result ≡ Rattle.un_report.specs.Report.block_of params.now }
 {
     match params.class {
-        Class::Ecm | Class::Eem => 0,
+        Class::Ecm | Class::Eem | Class::Rndis => 0,
         Class::Ncm16 | Class::Ncm32 => params.block,
     }
 }

@@ -1,5 +1,5 @@
 -- The first line of a text, cut at its line feed.
-use Rattle.std.proofs.Common.{ℕ, ◌+◌, ◌<◌, ◌≡◌, Bool, true, false, ◌==◌, if◌then◌else◌, List, [], ◌∷◌, ◌++◌, length, filter, refl, arith}
+use Rattle.std.proofs.Common.{ℕ, ◌<◌, ◌≡◌, Bool, true, false, ◌==◌, if◌then◌else◌, List, [], ◌∷◌, ◌++◌, length, filter, refl, arith}
 use Rattle.un_text.specs.Words.{feeds}
 use Rattle.un_script.specs.Words.{lines_of}
 
