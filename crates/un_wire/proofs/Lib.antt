@@ -2,3 +2,4 @@ mod CountLemmas
 pub mod CursorLemmas
 mod WriteLemmas
 pub mod OpenSteps
+mod SpanLemmas

@@ -4,3 +4,4 @@ pub mod Places
 pub mod Cursors
 pub mod Left
 pub mod Laws
+pub mod Spans

@@ -1,12 +1,15 @@
 -- Where a walk over a transfer's parts stands.
 use Rattle.std.specs.Prelude.{◌≡◌, ℕ, ◌≤◌, true, false, List, [], ◌∷◌, length}
 use Rattle.un_eem.specs.Frames as packets
+use Rattle.un_frame.specs.Bytes as frames
 use Rattle.un_frame.specs.declared.params.Class.{Class}
 use Rattle.un_frame.specs.declared.params.Class.TheVariants.{Ecm, Eem, Ncm16, Ncm32, Rndis}
 use Rattle.un_frame.specs.Ntb.{ntb16, ntb32}
+use Rattle.un_frame.specs.Parts.{places_as}
 use Rattle.un_frame.specs.Wire.{Reads}
 use Rattle.un_ntb.specs.Walk as blocks
 use Rattle.un_rndis.specs.Frames as messages
+use Rattle.un_rndis.specs.Walk as message_places
 use Rattle.un_wire.specs.declared.cursor.Cursor.{Cursor}
 use Rattle.un_wire.specs.declared.cursor.Place.{Place}
 use Rattle.un_wire.specs.declared.cursor.Place.TheVariants.{Whole, Packet, Block16, Block32, Message}
@@ -36,6 +39,15 @@ parts_at bytes (Block16 at) = blocks.parts_left ntb16 bytes at
 parts_at bytes (Block32 at) = blocks.parts_left ntb32 bytes at
 parts_at bytes (Message at) = messages.frames_from bytes at
 
+-- and where they stand
+abbrev pub places_at : List ℕ → Place → List frames.Place
+places_at bytes (Whole true) = record { at = 0; size = length bytes } ∷ []
+places_at bytes (Whole false) = []
+places_at bytes (Packet at) = packets.places_from bytes at
+places_at bytes (Block16 at) = blocks.places_left ntb16 bytes at
+places_at bytes (Block32 at) = blocks.places_left ntb32 bytes at
+places_at bytes (Message at) = message_places.places_from bytes at
+
 -- the commands of a transfer, which those of EEM alone may have
 abbrev pub commands_in : Class → List ℕ → ℕ
 commands_in Ecm bytes = 0
@@ -47,5 +59,6 @@ commands_in Rndis bytes = 0
 -- the cursor stands before the first of the frames that the transfer is read as
 pub record IsFirst (class : Class) (bytes : List ℕ) (cursor : Cursor) : Type 0 where
   pub found : Reads class bytes (parts_at bytes cursor.place) (commands_in class bytes)
+  pub placed : places_at bytes cursor.place ≡ places_as class bytes
   pub of_class : class_at cursor.place ≡ class
   pub sound : IsSoundAt bytes cursor.place

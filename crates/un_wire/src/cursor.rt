@@ -1,11 +1,13 @@
 //! A walk over the parts of a transfer that keeps no borrow of its bytes.
 
-ghost use Rattle.std.specs.Prelude.{◌≡◌, ◌∷◌, ◌<◌, ◌^◌, [], List, ℕ, IfNone, IfOk, IfSome, None, drop, length};
+ghost use Rattle.std.specs.Prelude.{◌≡◌, ◌∷◌, ◌+◌, ◌<◌, ◌≤◌, ◌^◌, [], List, ℕ, IfNone, IfOk, IfSome, None, drop, length};
+ghost use Rattle.un_frame.specs.Bytes as Frames;
 ghost use Rattle.un_frame.specs.Fault.{fault_in};
+ghost use Rattle.un_frame.specs.Spans.{place_of};
 ghost use Rattle.un_frame.specs.Wire.{fault_of};
-ghost use Rattle.un_wire.specs.Places.{IsFirst, IsSoundAt, class_at, commands_in, parts_at};
+ghost use Rattle.un_wire.specs.Places.{IsFirst, IsSoundAt, class_at, commands_in, parts_at, places_at};
 
-use un_frame::{Class, Fault};
+use un_frame::{Class, Fault, Span};
 use un_packet::ecm_read;
 
 /// The place of a part in a transfer, by the form of its class.
@@ -46,12 +48,38 @@ impl Cursor {
         }
     }
 
+    /// Tells where the part stands; `None` exactly where none is left.
+    pub(crate) fn span(&self, bytes: &[u8]) -> Option<Span>
+        requires { IsSoundAt bytes.now self.now.place }
+        ensures span { IfSome result (λ span. (rest : List Frames.Place) × (places_at bytes.now self.now.place ≡ place_of span ∷ rest)) }
+        ensures inside { IfSome result (λ span. span.at + span.size ≤ length bytes.now) }
+        ensures end { IfNone result (places_at bytes.now self.now.place ≡ []) }
+    {
+        match self.place {
+            Place::Whole(is_left) => {
+                if is_left {
+                    Some(Span {
+                        at: 0,
+                        size: bytes.len(),
+                    })
+                } else {
+                    None
+                }
+            }
+            Place::Packet(at) => un_eem::span_at(bytes, at),
+            Place::Block16(at) => un_ntb::span_at::<2>(bytes, at),
+            Place::Block32(at) => un_ntb::span_at::<4>(bytes, at),
+            Place::Message(at) => un_rndis::span_at(bytes, at),
+        }
+    }
+
     /// The cursor at the next part; one at the end stays.
     pub(crate) fn next(&self, bytes: &[u8]) -> Cursor
         requires { IsSoundAt bytes.now self.now.place }
         ensures sound { IsSoundAt bytes.now result.place }
         ensures class { class_at result.place ≡ class_at self.now.place }
         ensures one { parts_at bytes.now result.place ≡ drop 1 (parts_at bytes.now self.now.place) }
+        ensures places { places_at bytes.now result.place ≡ drop 1 (places_at bytes.now self.now.place) }
     {
         let place = match self.place {
             Place::Whole(_) => Place::Whole(false),

@@ -14,8 +14,9 @@
 //!
 //! Whoever builds or takes transfers knows them by this crate's clauses alone: what is closed is the written form of
 //! its frames, what is read is what the grammar says, which frames fit, how long a transfer may get and how many frames
-//! it has. A [`Codec`] is a [`Wire`], and lends parts by a cursor; `read` reads by the class alone. `forms_are_read`
-//! and its like do nothing: their contracts are laws that a builder or a receiver may rest on.
+//! it has. A [`Codec`] is a [`Wire`], and lends parts by a cursor; `read` reads by the class alone, and `read_spans`
+//! tells into an array of the caller's where the frames stand. `forms_are_read` and its like do nothing: their contracts
+//! are laws that a builder or a receiver may rest on.
 #![tactic(auto)]
 
 mod codec;
@@ -27,6 +28,7 @@ mod ntb;
 mod parts;
 mod rndis;
 mod single;
+mod spans;
 mod wire;
 
 pub use codec::Codec;
@@ -37,4 +39,5 @@ pub use laws::{forms_are_read, frames_are_few, open_transfers, parts_are_one, se
 pub use ntb::{Ntb16Wire, Ntb32Wire, NtbWire};
 pub use parts::{Parts, read};
 pub use rndis::RndisWire;
+pub use spans::{Held, read_spans};
 pub use wire::Wire;

@@ -1,6 +1,5 @@
-use Rattle.std.proofs.Common.{◌≡◌, ◌+◌, ◌≤◌, ◌%◌, ◌==◌, length, ap, sym, subst, ℕ, arith}
+use Rattle.std.proofs.Common.{◌+◌, ◌≤◌, ◌%◌, ◌==◌, length, ap, subst, ℕ, arith}
 use Rattle.un_frame.specs.Classes.{eem_capacity}
-use Rattle.un_frame.specs.Eem.{packets_size}
 use Rattle.un_req.specs.Request.{Buffer}
 use Rattle.un_wire.proofs.WriteLemmas.{eem_room, eem_within}
 use Rattle.un_wire.proofs.eem.EemWireWire.close.Goals as goal

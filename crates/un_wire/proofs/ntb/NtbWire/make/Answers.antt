@@ -1,4 +1,4 @@
-use Rattle.std.proofs.Common.{◌≤◌, arith}
+use Rattle.std.proofs.Common.{arith}
 use Rattle.un_wire.proofs.WriteLemmas.{block_ncm, remainder_ncm}
 use Rattle.un_wire.proofs.ntb.NtbWire.make.Goals as goal
 
