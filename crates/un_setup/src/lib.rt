@@ -14,8 +14,9 @@
 //!
 //! `agree` is the whole set-up: it tests the parameters, and then a host takes its steps in turn at a new `Device` of
 //! un_classreq. An [`Agreed`] also has the parameters, which agree, and the function that the host read from the
-//! configuration that crossed. Of RNDIS no set-up is made here: its two ends agree at once. `exchange_steps` takes any steps at any device, until one is stalled.
-//! `exchanges_succeed` does nothing: its contract is the law that a new device answers each step of the host.
+//! configuration that crossed. The set-up of RNDIS stays out of this project: its two ends agree at once. `exchange_steps`
+//! takes any steps at any device, until one is stalled. `exchanges_succeed` does nothing: its contract is the law that a
+//! new device answers each step of the host.
 #![tactic(auto)]
 
 mod agreement;
