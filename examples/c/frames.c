@@ -3,8 +3,9 @@
  *
  *     frames CLASS [FILE]        CLASS: ecm, eem, ncm16, ncm32, rndis
  *
- * Exit statuses are those of `usbnet decode`: 0 done, 1 no memory, 2 the input can't be read, 3 the output can't be
- * written, 4 bad words, 7 the input has more than 16777216 bytes, 8 the bytes are no transfer of the class.
+ * Output and exit statuses are those of `usbnet decode`, also where it refuses: 0 done, 1 no memory, 2 the input can't
+ * be read, 3 the output can't be written, 4 bad words, 7 the input has more than 16777216 bytes, 8 the bytes are no
+ * transfer of the class.
  */
 #include <stdio.h>
 #include <stdlib.h>
@@ -18,7 +19,7 @@ static const char *const classes[] = {"ecm", "eem", "ncm16", "ncm32", "rndis"};
 
 static int refuse(int status, const char *words)
 {
-    fputs(words, stderr);
+    fputs(words, stdout);
     return status;
 }
 
@@ -61,7 +62,7 @@ static int print_transfer(uint32_t class_number, const uint8_t *bytes, size_t le
     uint32_t status = usbnet_read(class_number, bytes, length, NULL, 0, &answer);
 
     if (status != USBNET_READ) {
-        fprintf(stderr, "bad transfer %s %llu\n", usbnet_fault_name(status), (unsigned long long)answer.at);
+        printf("bad transfer %s %llu\n", usbnet_fault_name(status), (unsigned long long)answer.at);
         return 8;
     }
     usbnet_span *spans = (usbnet_span *)calloc(answer.frames + 1, sizeof *spans);
