@@ -29,6 +29,8 @@ mod req_tests;
 #[cfg(test)]
 mod setup_tests;
 #[cfg(test)]
+mod span_tests;
+#[cfg(test)]
 mod text_tests;
 #[cfg(test)]
 mod wire_tests;
