@@ -6,7 +6,7 @@ ghost use Rattle.un_frame.specs.Wire.{capacity_of, frame_fits};
 ghost use Rattle.un_wire.specs.Codings.{coding_of};
 
 use std::test::Fail;
-use un_frame::{Class, Params};
+use un_frame::{Class, Fault, Kind, Params};
 use un_req::{Pool, Request};
 use un_wire::{Codec, Wire};
 
@@ -16,6 +16,13 @@ const BLOCK: [u8; 92] = *b"NCMH\x0c\0\0\0\x5c\0\x4c\0\
 \0\0\0\0\0\0\0\0\0\0\0\0\0\0\0\0\0\0\0\0\0\0\0\
 \0\0\0\0\0\0\0\0\0\0\0\0\0\0\0\0\0\0\0\0\0\0\0\
 \0\0NCM0\x10\0\0\0\x0e\0\x3c\0\0\0\0\0";
+
+/// The data message of RNDIS with the same frame, and one byte more, which may follow a message.
+const MESSAGE: [u8; 105] = *b"\x01\0\0\0\x68\0\0\0\x24\0\0\0\x3c\0\0\0\
+\0\0\0\0\0\0\0\0\0\0\0\0\0\0\0\0\0\0\0\0\0\0\0\0\0\0\0\0\
+\x02\0\0\0\0\x02\x02\0\0\0\0\x01\x08\0\
+\0\0\0\0\0\0\0\0\0\0\0\0\0\0\0\0\0\0\0\0\0\0\0\
+\0\0\0\0\0\0\0\0\0\0\0\0\0\0\0\0\0\0\0\0\0\0\0\0";
 
 /// Writes a transfer of one frame.
 fn write_one(codec: &mut Codec, request: &mut Request, frame: &[u8])
@@ -96,6 +103,7 @@ fn a_frame_there_and_back(rt: HostRuntime) -> Result<(), Fail> {
         (Class::Eem, 66),
         (Class::Ncm16, 92),
         (Class::Ncm32, 112),
+        (Class::Rndis, 104),
     ] {
         let mut codec = Codec::make(rt.alloc(), &Params::of_class(class))?;
         let mut pool = Pool::make(rt.alloc(), 1, codec.capacity())?;
@@ -119,5 +127,56 @@ fn a_cursor_walks_a_block(rt: HostRuntime) -> Result<(), Fail> {
     assert!(rt; codec.part_at(&BLOCK, &cursor) == Some(&BLOCK[14..74]));
     assert!(rt; codec.advance(&BLOCK, &mut cursor));
     assert!(rt; codec.part_at(&BLOCK, &cursor).is_none());
+    Ok(())
+}
+
+/// A message is written byte for byte, and holds one frame of at most a segment.
+#[test]
+fn a_message_is_written(rt: HostRuntime) -> Result<(), Fail> {
+    let mut codec = Codec::make(rt.alloc(), &Params::of_class(Class::Rndis))?;
+    let mut pool = Pool::make(rt.alloc(), 1, codec.capacity())?;
+    let mut request = pool.take().ok_or("none is home")?;
+    assert_eq!(rt; codec.capacity(), 1558);
+    assert!(rt; codec.fits(1514) && !codec.fits(1515));
+    assert!(rt; codec.fits(60));
+    assert!(rt; !write_both(&mut codec, &mut request, &BLOCK[14..74]));
+    assert!(rt; request.bytes() == &MESSAGE[..104]);
+    Ok(())
+}
+
+/// The frames that the codec reads in a transfer, or the first fault.
+fn frames_in(codec: &Codec, bytes: &[u8]) -> Result<u64, Fault> {
+    Ok(codec.read(bytes)?.count())
+}
+
+/// One byte may follow a message. Less than a message is a fault, and so is one byte alone.
+#[test]
+fn messages_are_read(rt: HostRuntime) -> Result<(), Fail> {
+    let codec = Codec::make(rt.alloc(), &Params::of_class(Class::Rndis))?;
+    for (size, count) in [(0, 0), (104, 1), (105, 1)] {
+        assert!(rt; size <= 105);
+        assert_eq!(rt; frames_in(&codec, &MESSAGE[..size]), Ok(count));
+    }
+    for (size, kind, at) in [
+        (1, Kind::Truncated, 0),
+        (43, Kind::Truncated, 0),
+        (103, Kind::BadMessageLength, 4),
+    ] {
+        assert!(rt; size <= 105);
+        assert_eq!(rt;
+            frames_in(&codec, &MESSAGE[..size]),
+            Err(Fault { kind, at })
+        );
+    }
+    Ok(())
+}
+
+#[test]
+fn a_cursor_walks_a_message(rt: HostRuntime) -> Result<(), Fail> {
+    let codec = Codec::make(rt.alloc(), &Params::of_class(Class::Rndis))?;
+    let mut cursor = codec.cursor(&MESSAGE).ok().ok_or("a fault")?;
+    assert!(rt; codec.part_at(&MESSAGE, &cursor) == Some(&MESSAGE[44..104]));
+    assert!(rt; codec.advance(&MESSAGE, &mut cursor));
+    assert!(rt; codec.part_at(&MESSAGE, &cursor).is_none());
     Ok(())
 }

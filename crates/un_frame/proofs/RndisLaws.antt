@@ -40,7 +40,7 @@ messages_few (suc left) bytes at =
 header_long : (size : ℕ) → length (message_header size) ≡ 44
 header_long size = simp (length-append, length-number_bytes, length-zeros) (omega arith)
 
-message_long : (frame : List ℕ) → length (message_bytes frame) ≡ length frame + 44
+pub message_long : (frame : List ℕ) → length (message_bytes frame) ≡ length frame + 44
 message_long frame = let header = header_long (length frame) in let whole = length-append (message_header (length frame)) frame in omega (arith, header, whole)
 
 -- the numbers of a message that a writer makes

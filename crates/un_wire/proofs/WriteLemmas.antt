@@ -1,20 +1,21 @@
 -- What the codecs write, by class.
-use Rattle.std.proofs.Common.{◌≡◌, ℕ, ◌+◌, ◌<◌, ◌≤◌, ◌==◌, Bool, true, false, nat_le, if◌then◌else◌, List, [], ◌∷◌, ◌++◌, length, map, Option, Some, None, option_to_list, unwrap_or, refl, sym, ap, ◌∙◌, IsTrue, subst, arith, append-nil, length-append}
+use Rattle.std.proofs.Common.{◌≡◌, ℕ, ◌+◌, ◌<◌, ◌≤◌, ◌==◌, Bool, true, false, nat_le, if◌then◌else◌, List, [], ◌∷◌, ◌++◌, length, map, Option, Some, None, option_to_list, unwrap_or, refl, sym, ap, ◌∙◌, IsTrue, subst, arith, length-append}
 use Rattle.std.proofs.lemmas.Bool.{and_parts, false≢true, leb-true}
 use Rattle.std.proofs.lemmas.Bool.Decides.{nat_tests}
 use Rattle.std.proofs.lemmas.List.{length-map}
 use Rattle.std.proofs.lemmas.List.Sums.{sum_by_push}
-use Rattle.std.specs.List.{concat}
 use Rattle.un_frame.proofs.EemLaws.{data_size, fit_within, padded-short}
+use Rattle.un_frame.proofs.RndisLaws.{message_long}
 use Rattle.un_frame.specs.declared.params.Class.{Class}
-use Rattle.un_frame.specs.declared.params.Class.TheVariants.{Ecm, Eem, Ncm16, Ncm32}
+use Rattle.un_frame.specs.declared.params.Class.TheVariants.{Ecm, Eem, Ncm16, Ncm32, Rndis}
 use Rattle.un_frame.specs.declared.params.Lane.{Lane}
 use Rattle.un_frame.specs.declared.params.Params.{Params}
 use Rattle.un_frame.specs.Eem.{Empty, packet_bytes, packets_fit, packets_size}
 use Rattle.un_frame.specs.Ntb.{Format, ntb16, ntb32}
 use Rattle.un_frame.specs.NtbForm.{IsOpenBlock, Layout, block_fits, datagrams_end, ntb_form, open_block}
+use Rattle.un_frame.specs.Rndis.{message_bytes}
 use Rattle.un_frame.specs.Blocks.{layout_of}
-use Rattle.un_frame.specs.Classes.{ecm, eem_capacity}
+use Rattle.un_frame.specs.Classes.{eem_capacity, fits_alone, rules_of}
 use Rattle.un_frame.specs.Lanes.{packs}
 use Rattle.un_frame.specs.Params.{Agree, AgreeAs, most_block}
 use Rattle.un_frame.specs.Wire.{IsOpen, capacity_as, capacity_of, fits_as, frame_fits, open_as, open_form}
@@ -23,15 +24,30 @@ use Rattle.un_frame.proofs.NtbFormReads.{IsWritable, length-block}
 use Rattle.un_eem.specs.Transfer.{data_packets}
 use Rattle.un_ntb.specs.Formats.{class_of, format_of}
 
--- the bytes of an open transfer
-pub open_ecm : (p : Params) (sizes bytes : List ℕ) (frames : List (List ℕ)) → p.class ≡ Ecm → IsOpen p sizes bytes frames → bytes ≡ concat frames
-open_ecm p sizes bytes frames is o = o.so_far ∙ ap (λ (class : Class). open_as class p frames) is
+-- A class that puts one frame into a transfer, with so many bytes more.
+pub record IsAlone (class : Class) (more : ℕ) : Type 0 where
+  pub fits : (rules_of class).fits ≡ fits_alone
+  pub capacity : (p : Params) → capacity_as class p ≡ p.segment + more
+  pub none : (p : Params) → open_as class p [] ≡ []
+  pub one : (p : Params) (frame : List ℕ) → length (open_as class p (frame ∷ [])) ≡ length frame + more
 
+pub ecm_alone : IsAlone Ecm 0
+ecm_alone = record { fits = refl; capacity = λ p. omega arith; none = λ p. refl; one = λ p frame. let long = length-append frame [] in omega (arith, long) }
+
+pub rndis_alone : IsAlone Rndis 44
+rndis_alone = record {
+  fits = refl;
+  capacity = λ p. refl;
+  none = λ p. refl;
+  one = λ p frame. let message = message_long frame in let long = length-append (message_bytes frame) [] in omega (arith, message, long);
+}
+
+-- the bytes of an open transfer
 pub open_eem : (p : Params) (sizes bytes : List ℕ) (frames : List (List ℕ)) → p.class ≡ Eem → IsOpen p sizes bytes frames → bytes ≡ data_packets frames
 open_eem p sizes bytes frames is o = o.so_far ∙ ap (λ (class : Class). open_as class p frames) is
 
 -- a frame that fits is the first, of at most a segment, and the transfer has no bytes before it
-fits_first : (p : Params) (held : Option ℕ) (size : ℕ) → IsTrue (ecm.fits p (option_to_list held) size) → (held ≡ None) × (size ≤ p.segment)
+fits_first : (p : Params) (held : Option ℕ) (size : ℕ) → IsTrue (fits_alone p (option_to_list held) size) → (held ≡ None) × (size ≤ p.segment)
 fits_first p None size t = (refl, grind (arith, nat_tests, t))
 fits_first p (Some n) size t = absurd (false≢true t)
 
@@ -39,22 +55,30 @@ no_frames : (frames : List (List ℕ)) → map length frames ≡ [] → frames �
 no_frames [] same = refl
 no_frames (x ∷ xs) same = absurd (cc)
 
-module _ (p : Params) (held : Option ℕ) (size : ℕ) (is : p.class ≡ Ecm) (fits : IsTrue (frame_fits p (option_to_list held) size)) where
-  ecm_first : (held ≡ None) × (size ≤ p.segment)
-  ecm_first = fits_first p held size (subst (λ (class : Class). IsTrue (fits_as class p (option_to_list held) size)) is fits)
+module _ (class : Class) (more : ℕ) (alone : IsAlone class more) (p : Params) (held : Option ℕ) (size : ℕ) (is : p.class ≡ class) (fits : IsTrue (frame_fits p (option_to_list held) size)) where
+  alone_first : (held ≡ None) × (size ≤ p.segment)
+  alone_first =
+      let by_class = subst (λ (c : Class). IsTrue (fits_as c p (option_to_list held) size)) is fits in
+      fits_first p held size (subst (λ (f : Params → List ℕ → ℕ → Bool). IsTrue (f p (option_to_list held) size)) alone.fits by_class)
 
-  pub ecm_frame_room : (room : ℕ) → capacity_of p ≤ room → size ≤ room
-  ecm_frame_room room within =
-      let first = ecm_first in
+  pub alone_room : (room : ℕ) → capacity_of p ≤ room → size + more ≤ room
+  alone_room room within =
+      let first = alone_first in
       let most = first.1 in
-      let capacity = ap (λ (class : Class). capacity_as class p) is in
+      let capacity = ap (λ (c : Class). capacity_as c p) is ∙ alone.capacity p in
       omega (arith, most, capacity, within)
 
-  pub ecm_empty : (bytes : List ℕ) → ((frames : List (List ℕ)) × IsOpen p (option_to_list held) bytes frames) → bytes ≡ []
-  ecm_empty bytes left =
-      let first = ecm_first in
-      let none = no_frames left.0 (left.1.lengths ∙ ap (λ (o : Option ℕ). option_to_list o) first.0) in
-      open_ecm p (option_to_list held) bytes left.0 is left.1 ∙ ap (λ (fs : List (List ℕ)). concat fs) none
+  alone_frames : (bytes : List ℕ) (frames : List (List ℕ)) → IsOpen p (option_to_list held) bytes frames → frames ≡ []
+  alone_frames bytes frames o =
+      let first = alone_first in
+      no_frames frames (o.lengths ∙ ap (λ (o : Option ℕ). option_to_list o) first.0)
+
+  pub alone_empty : (bytes : List ℕ) → ((frames : List (List ℕ)) × IsOpen p (option_to_list held) bytes frames) → bytes ≡ []
+  alone_empty bytes left =
+      left.1.so_far ∙ ap (λ (c : Class). open_as c p left.0) is ∙ ap (λ (fs : List (List ℕ)). open_as class p fs) (alone_frames bytes left.0 left.1) ∙ alone.none p
+
+  pub alone_grown : (bytes : List ℕ) (frames : List (List ℕ)) (frame : List ℕ) → IsOpen p (option_to_list held) bytes frames → open_form p (frames ++ frame ∷ []) ≡ open_as class p (frame ∷ [])
+  alone_grown bytes frames frame o = ap (λ (c : Class). open_as c p (frames ++ frame ∷ [])) is ∙ ap (λ (fs : List (List ℕ)). open_as class p (fs ++ frame ∷ [])) (alone_frames bytes frames o)
 
 -- the bytes of packets are as many as their frames' sizes say
 pub open_size : (p : Params) (sizes bytes : List ℕ) → p.class ≡ Eem → ((frames : List (List ℕ)) × IsOpen p sizes bytes frames) → length bytes ≡ packets_size sizes
@@ -96,13 +120,13 @@ eem_within p sizes bytes closed b is within left same =
     let whole = ap (λ (xs : List ℕ). length xs) same in
     omega (arith, room, long, whole)
 
--- the frames of an open transfer that holds one frame at most
-pub length-concat_held : (held : Option ℕ) (frames : List (List ℕ)) → map length frames ≡ option_to_list held → length (concat frames) ≡ unwrap_or held 0
-length-concat_held None [] same = refl
-length-concat_held None (x ∷ xs) same = absurd (cc)
-length-concat_held (Some n) [] same = absurd (cc)
-length-concat_held (Some n) (x ∷ []) same = let long : length x ≡ n = cc in ap length (append-nil x) ∙ long
-length-concat_held (Some n) (x ∷ y ∷ zs) same = absurd (cc)
+-- the bytes of an open transfer that holds one frame at most
+held_long : (class : Class) (more : ℕ) → IsAlone class more → (p : Params) (held : Option ℕ) (frames : List (List ℕ)) → map length frames ≡ option_to_list held → length (open_as class p frames) ≤ unwrap_or held 0 + more
+held_long class more alone p None [] same = let none = ap (λ (xs : List ℕ). length xs) (alone.none p) in omega (arith, none)
+held_long class more alone p None (x ∷ xs) same = absurd (cc)
+held_long class more alone p (Some n) [] same = absurd (cc)
+held_long class more alone p (Some n) (x ∷ []) same = let long : length x ≡ n = cc in let one = alone.one p x in omega (arith, long, one)
+held_long class more alone p (Some n) (x ∷ y ∷ zs) same = absurd (cc)
 
 -- a closed block that fits has at most the block's bytes
 pub block_within : (f : Format) (p : Params) (serial : ℕ) (frames : List (List ℕ)) → IsWritable f → block_fits f (layout_of p) p.block p.datagrams (map length frames) ≡ true → length (ntb_form f (layout_of p) serial frames) ≤ p.block
@@ -111,12 +135,12 @@ block_within f p serial frames known fits =
     let t = closed_fits_within f p.alignment p.block p.datagrams (datagrams_end (layout_of p) f.header (map length frames)) (length frames) (rw n at fits) in
     rw (length-block f (layout_of p) serial frames known) t.0
 
--- what a codec of ECM closes has at most the capacity
-pub ecm_within : (p : Params) (held : Option ℕ) (bytes : List ℕ) → p.class ≡ Ecm → unwrap_or held 0 ≤ p.segment → ((frames : List (List ℕ)) × IsOpen p (option_to_list held) bytes frames) → length bytes ≤ capacity_of p
-ecm_within p held bytes is fits left =
-    let whole = ap (λ (xs : List ℕ). length xs) (open_ecm p (option_to_list held) bytes left.0 is left.1) in
-    let long = length-concat_held held left.0 left.1.lengths in
-    let capacity = ap (λ (class : Class). capacity_as class p) is in
+-- what a codec of such a class closes has at most the capacity
+pub alone_within : (class : Class) (more : ℕ) → IsAlone class more → (p : Params) (held : Option ℕ) (bytes : List ℕ) → p.class ≡ class → unwrap_or held 0 ≤ p.segment → ((frames : List (List ℕ)) × IsOpen p (option_to_list held) bytes frames) → length bytes ≤ capacity_of p
+alone_within class more alone p held bytes is fits left =
+    let whole = ap (λ (xs : List ℕ). length xs) (left.1.so_far ∙ ap (λ (c : Class). open_as c p left.0) is) in
+    let long = held_long class more alone p held left.0 left.1.lengths in
+    let capacity = ap (λ (c : Class). capacity_as c p) is ∙ alone.capacity p in
     omega (arith, whole, long, capacity, fits)
 
 -- and what a codec of NCM closes

@@ -1,7 +1,7 @@
 -- What the codecs of the classes keep, and what callers see of it.
-use Rattle.std.specs.Prelude.{◌≡◌, ℕ, ◌+◌, ◌-◌, ◌*◌, ◌/◌, ◌<◌, ◌≤◌, ◌==◌, if◌then◌else◌, min, length, vec_capacity, List, [], Option, None, option_to_list, unwrap_or, false, true}
+use Rattle.std.specs.Prelude.{◌≡◌, ℕ, ◌+◌, ◌-◌, ◌*◌, ◌/◌, ◌<◌, ◌≤◌, ◌==◌, if◌then◌else◌, min, length, vec_capacity, [], None, option_to_list, unwrap_or, false, true}
 use Rattle.un_frame.specs.declared.params.Class.{Class}
-use Rattle.un_frame.specs.declared.params.Class.TheVariants.{Ecm, Eem}
+use Rattle.un_frame.specs.declared.params.Class.TheVariants.{Eem}
 use Rattle.un_frame.specs.declared.params.Params.{Params}
 use Rattle.un_frame.specs.Blocks.{layout_of}
 use Rattle.un_frame.specs.Classes.{eem_capacity}
@@ -13,12 +13,13 @@ use Rattle.un_ntb.specs.Formats.{class_of, format_of}
 use Rattle.un_wire.specs.declared.eem.EemWire.TheInside as eem_wire
 use Rattle.un_wire.specs.declared.ntb.NtbWire.TheInside as ntb_wire
 
--- a codec of ECM: the open transfer has at most one frame, of at most a segment; with none open there is no frame
+-- a codec of a class that puts one frame into a transfer, ECM or RNDIS: the open transfer has at most one frame, of at most a
+-- segment; with none open there is no frame
 abbrev pub single_coding : Params → Single → Coding
 single_coding params single = record { params = params; sizes = option_to_list single.held; is_open = single.is_open }
 
-pub record IsSingle (params : Params) (single : Single) : Type 0 where
-  pub class_is : params.class ≡ Ecm
+pub record IsSingle (class : Class) (params : Params) (single : Single) : Type 0 where
+  pub class_is : params.class ≡ class
   pub segment : params.segment ≤ 8192
   pub fits : unwrap_or single.held 0 ≤ params.segment
   pub nothing_open : single.is_open ≡ false → single.held ≡ None

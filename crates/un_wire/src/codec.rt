@@ -12,6 +12,7 @@ use crate::ecm::EcmWire;
 use crate::eem::EemWire;
 use crate::ntb::{Ntb16Wire, Ntb32Wire};
 use crate::parts::{Parts, read};
+use crate::rndis::RndisWire;
 use crate::wire::Wire;
 use std::alloc::{AllocError, Global};
 use un_frame::{Class, Fault, Lane, Params};
@@ -25,6 +26,7 @@ macro_rules! each {
             Codec::Eem($codec) => $answer,
             Codec::Ncm16($codec) => $answer,
             Codec::Ncm32($codec) => $answer,
+            Codec::Rndis($codec) => $answer,
         }
     };
 }
@@ -44,6 +46,8 @@ pub enum Codec {
     Ncm16(Ntb16Wire),
     /// NCM: blocks with fields of 32 bits.
     Ncm32(Ntb32Wire),
+    /// RNDIS: a data message in each transfer.
+    Rndis(RndisWire),
 }
 
 impl Codec {
@@ -63,6 +67,7 @@ impl Codec {
             Class::Eem => Ok(Codec::Eem(EemWire::make(alloc, params)?)),
             Class::Ncm16 => Ok(Codec::Ncm16(Ntb16Wire::make(alloc, params)?)),
             Class::Ncm32 => Ok(Codec::Ncm32(Ntb32Wire::make(alloc, params)?)),
+            Class::Rndis => Ok(Codec::Rndis(RndisWire::make(params))),
         }
     }
 

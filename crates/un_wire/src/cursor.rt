@@ -19,6 +19,8 @@ pub(crate) enum Place {
     Block16(un_ntb::Cursor),
     /// NCM with fields of 32 bits: a pair of a table.
     Block32(un_ntb::Cursor),
+    /// RNDIS: the place of a message, or of where none is left, in bytes from the transfer's beginning.
+    Message(usize),
 }
 
 /// Where a receiver stands in a transfer's parts: at one of them, or past the last. It has no bytes inside, so a receiver can own
@@ -40,6 +42,7 @@ impl Cursor {
             Place::Packet(at) => un_eem::part_at(bytes, at),
             Place::Block16(at) => un_ntb::part_at::<2>(bytes, at),
             Place::Block32(at) => un_ntb::part_at::<4>(bytes, at),
+            Place::Message(at) => un_rndis::part_at(bytes, at),
         }
     }
 
@@ -55,6 +58,7 @@ impl Cursor {
             Place::Packet(at) => Place::Packet(un_eem::next(bytes, at)),
             Place::Block16(at) => Place::Block16(un_ntb::next::<2>(bytes, at)),
             Place::Block32(at) => Place::Block32(un_ntb::next::<4>(bytes, at)),
+            Place::Message(at) => Place::Message(un_rndis::next(bytes, at)),
         };
         Cursor { place }
     }
@@ -90,6 +94,12 @@ pub(crate) fn begin(class: Class, bytes: &[u8]) -> Result<Cursor, Fault>
                 place: Place::Block32(at),
             })
         }
+        Class::Rndis => {
+            let at = un_rndis::begin(bytes)?;
+            Ok(Cursor {
+                place: Place::Message(at),
+            })
+        }
     }
 }
 
@@ -100,7 +110,7 @@ pub(crate) fn commands(class: Class, bytes: &[u8]) -> u64
 {
     match class {
         Class::Eem => un_eem::commands(bytes),
-        Class::Ecm | Class::Ncm16 | Class::Ncm32 => 0,
+        Class::Ecm | Class::Ncm16 | Class::Ncm32 | Class::Rndis => 0,
     }
 }
 

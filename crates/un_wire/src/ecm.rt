@@ -23,13 +23,14 @@ pub struct EcmWire {
 
 impl Model for EcmWire {
     ghost use Rattle.un_frame.specs.Wire.{Coding};
+    ghost use Rattle.un_frame.specs.declared.params.Class.TheVariants.{Ecm};
     ghost use Rattle.un_wire.specs.Held.{IsSingle, single_coding};
 
     ghost Value = { Coding };
 
     ghost view = { λ w. single_coding w.params w.single };
 
-    ghost invariant = { λ w. IsSingle w.params w.single };
+    ghost invariant = { λ w. IsSingle Ecm w.params w.single };
 }
 
 impl EcmWire {

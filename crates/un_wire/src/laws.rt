@@ -29,7 +29,7 @@ pub fn parts_are_one()
     ensures counts { CountsAreParts }
 {}
 
-/// A transfer that the grammar reads has at most one frame in ECM, no more frames than bytes in EEM, and at most 2,097,120 in NCM.
+/// A transfer that the grammar reads has at most one frame in ECM, no more frames than bytes in EEM and RNDIS, and at most 2,097,120 in NCM.
 pub fn frames_are_few()
     ensures { FramesAreFew }
 {}

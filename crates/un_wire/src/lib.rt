@@ -25,6 +25,7 @@ mod eem;
 mod laws;
 mod ntb;
 mod parts;
+mod rndis;
 mod single;
 mod wire;
 
@@ -35,4 +36,5 @@ pub use eem::EemWire;
 pub use laws::{forms_are_read, frames_are_few, open_transfers, parts_are_one, segments_fit};
 pub use ntb::{Ntb16Wire, Ntb32Wire, NtbWire};
 pub use parts::{Parts, read};
+pub use rndis::RndisWire;
 pub use wire::Wire;

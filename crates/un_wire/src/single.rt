@@ -1,7 +1,7 @@
-//! The open transfer of ECM.
+//! The open transfer of a class that puts one frame into each, as ECM and RNDIS do.
 
 ghost use Rattle.std.specs.Prelude.{◌≡◌, None, Some, false, length, option_to_list, true};
-ghost use Rattle.un_frame.specs.Classes.{ecm};
+ghost use Rattle.un_frame.specs.Classes.{fits_alone};
 
 use un_frame::Params;
 
@@ -36,7 +36,7 @@ impl Single {
 
     /// Whether a frame of this length in bytes fits the open transfer: it is the first, and has at most a segment.
     pub(crate) fn fits(&self, params: &Params, length: u32) -> bool
-        ensures { result ≡ ecm.fits params.now (option_to_list self.now.held) length }
+        ensures { result ≡ fits_alone params.now (option_to_list self.now.held) length }
     {
         self.held.is_none() && length <= params.segment
     }

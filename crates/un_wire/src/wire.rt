@@ -16,8 +16,8 @@ pub trait Wire {
     /// Its parameters, which no call changes, the sizes of the open transfer's frames, and whether a transfer is open.
     ghost coding: { Self → Coding };
 
-    /// The most bytes of a transfer that it closes: a segment's for ECM, a block's for NCM, and for EEM a block's too, or 8 more than
-    /// a segment's where that is more, in both lanes.
+    /// The most bytes of a transfer that it closes: a segment's for ECM, 44 more than a segment's for RNDIS, a block's for NCM, and for
+    /// EEM a block's too, or 8 more than a segment's where that is more, in both lanes.
     fn capacity(&self) -> u32
         ensures { result ≡ capacity_of (coding self.now).params };
 
@@ -26,8 +26,8 @@ pub trait Wire {
         ensures count { result ≡ length (coding self.now).sizes }
         ensures nothing_open { (coding self.now).is_open ≡ false → result ≡ 0 };
 
-    /// Whether a frame of this length in bytes fits the open transfer, or a new one where none is open. ECM takes one frame of at
-    /// most a segment. EEM takes frames of at most a segment while their packets, and 2 bytes more, have at most `capacity`, and the
+    /// Whether a frame of this length in bytes fits the open transfer, or a new one where none is open. ECM and RNDIS take one frame of
+    /// at most a segment. EEM takes frames of at most a segment while their packets, and 2 bytes more, have at most `capacity`, and the
     /// frames are within their limit. NCM takes frames while the closed block has at most the block's bytes, its table at most
     /// 65,535, and the frames are within their limit.
     fn fits(&self, length: u32) -> bool
