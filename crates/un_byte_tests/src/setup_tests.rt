@@ -1,6 +1,7 @@
-//! The set-up of ECM, NCM and EEM byte for byte, and the worked refusals.
+//! The set-up of ECM, NCM and EEM byte for byte, that of RNDIS, and the worked refusals.
 
 use std::test::Fail;
+use un_desc::FunctionKind;
 use un_frame::{Class, Params};
 use un_setup::{Agreed, SetupFault, agree};
 
@@ -89,6 +90,35 @@ fn sets_eem_up(rt: HostRuntime) -> Result<(), Fail> {
             agreed.notes.as_slice().len()
         ),
         (2, 0)
+    );
+    Ok(())
+}
+
+#[test]
+fn agrees_on_rndis_at_once(rt: HostRuntime) -> Result<(), Fail> {
+    let rndis = Params::of_class(Class::Rndis);
+    let agreed = agree(rt.alloc(), &rndis).ok().ok_or("refused")?;
+    assert_eq!(rt;
+        (
+            agreed.exchanges.as_slice().len(),
+            agreed.notes.as_slice().len()
+        ),
+        (0, 0)
+    );
+    let function = agreed.function;
+    assert_eq!(rt;
+        (function.kind, function.segment, function.packet),
+        (FunctionKind::Rndis, 1514, 512)
+    );
+    assert_eq!(rt;
+        (
+            function.control,
+            function.interface,
+            function.setting,
+            function.bulk_in,
+            function.bulk_out
+        ),
+        (0, 0, 0, 0, 0)
     );
     Ok(())
 }
