@@ -1,0 +1,2 @@
+//! Whether a trace is one that a link may write.
+#![tactic(auto)]
