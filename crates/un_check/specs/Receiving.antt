@@ -28,8 +28,8 @@ serial_in None = None
 serial_in (Some r) = Some r.serial
 
 -- its numbers from the next on are left, and there is one
-pub record IsLeft (g : History) (r : Reading) : Type 0 where
-  pub numbers : left_of g r.serial ≡ row_from r.next (r.to - r.next)
+pub record IsLeft (left : ℕ → List ℕ) (r : Reading) : Type 0 where
+  pub numbers : left r.serial ≡ row_from r.next (r.to - r.next)
   pub some : r.next < r.to
 
 abbrev pub ReadingIs : (Reading → Type 0) → Option Reading → Type 0
@@ -42,4 +42,4 @@ pub record IsOf (params : Params) (lane : Lane) (g : History) (r : Receiving) : 
   pub home_is : r.home + posts g ≡ rx_back params lane g
   pub landed_is : arrived g ≡ r.landed
   pub reading_is : current g ≡ serial_in r.reading
-  pub left_is : ReadingIs (IsLeft g) r.reading
+  pub left_is : ReadingIs (IsLeft (left_of g)) r.reading

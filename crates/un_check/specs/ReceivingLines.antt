@@ -1,10 +1,37 @@
 -- What one more line does to a lane's receiving end, and what each step would write, by what is kept of it.
-use Rattle.std.specs.Prelude.{ℕ, ◌+◌, ◌-◌, Bool, ◌==◌, nat_lt, [], ◌∷◌, ◌++◌, drop, Option, Some, None, if◌then◌else◌}
+use Rattle.std.specs.Prelude.{◌≡◌, ℕ, ◌+◌, ◌-◌, ◌<◌, Bool, ◌==◌, nat_lt, [], ◌∷◌, ◌++◌, drop, Option, Some, None, if◌then◌else◌}
 use Rattle.un_frame.specs.declared.params.Lane.{Lane}
+use Rattle.un_frame.specs.declared.params.Params.{Params}
 use Rattle.un_journal.specs.declared.lines.Line.{Line}
 use Rattle.un_journal.specs.declared.lines.Line.TheVariants.{Posted, Flying, Landed, Failed, Retried, Cut, Opened, Gave, Recalled}
-use Rattle.un_journal.specs.History.{first, more_if}
+use Rattle.un_journal.specs.History.{Entry, History, first, more_if, flies, span}
+use Rattle.un_journal.specs.LaneSteps.{datagram_bytes}
 use Rattle.un_check.specs.Receiving.{Reading, Receiving}
+
+-- the serial and the number of the next datagram, and the number alone
+abbrev pub deliver_number : Option Reading → Option (ℕ × ℕ)
+deliver_number None = None
+deliver_number (Some reading) = Some (reading.serial, reading.next)
+
+abbrev pub next_in : Option Reading → Option ℕ
+next_in None = None
+next_in (Some reading) = Some reading.next
+
+-- What a line needs to be this end's next. That a transfer flies, which a landing, a failure and a retry need, isn't known here.
+abbrev pub GoesOn : Line → Receiving → Type 0
+GoesOn (Posted l) r = 0 < r.home
+GoesOn (Recalled l) r = 0 < r.posted
+GoesOn (Flying l k) r = 0 < r.posted
+GoesOn (Opened l k) r = (first r.landed ≡ Some k) × (r.reading ≡ None)
+GoesOn (Gave l n) r = next_in r.reading ≡ Some n
+GoesOn line r = Unit {0}
+
+-- What is told of a line's transfer, by the lane's lines g before it: whether it flies, where it is cut, and its span, where it is
+-- opened.
+abbrev pub IsTold : Bool → ℕ × ℕ → Line → History → Type 0
+IsTold is_out s (Cut l k c) g = flies g k ≡ is_out
+IsTold is_out s (Opened l k) g = span g k ≡ Some s
+IsTold is_out s line g = Unit {0}
 
 -- the reading after one more datagram: after the last the transfer is read whole
 abbrev pub next_of : Reading → Option Reading
@@ -19,16 +46,16 @@ gives r (Some reading) =
 -- The receiving end after a line. Is_out says whether a transfer flew before it: a cut then brings its request home. The span is
 -- that of the transfer that an opened line names.
 abbrev pub after : Bool → ℕ × ℕ → Line → Receiving → Receiving
-after is_out span (Posted l) r = record r { posted = r.posted + 1; home = r.home - 1 }
-after is_out span (Recalled l) r = record r { posted = r.posted - 1; home = r.home + 1 }
-after is_out span (Flying l k) r = record r { posted = r.posted - 1 }
-after is_out span (Landed l k) r = record r { landed = r.landed ++ k ∷ [] }
-after is_out span (Failed l k kind) r = record r { home = r.home + 1 }
-after is_out span (Retried l k n) r = record r { home = r.home + 1 }
-after is_out span (Cut l k c) r = record r { home = more_if is_out r.home }
-after is_out span (Opened l k) r = record r { landed = drop 1 r.landed; reading = Some (record { serial = k; next = span.0; to = span.1 }) }
-after is_out span (Gave l n) r = gives r r.reading
-after is_out span line r = r
+after is_out s (Posted l) r = record r { posted = r.posted + 1; home = r.home - 1 }
+after is_out s (Recalled l) r = record r { posted = r.posted - 1; home = r.home + 1 }
+after is_out s (Flying l k) r = record r { posted = r.posted - 1 }
+after is_out s (Landed l k) r = record r { landed = r.landed ++ k ∷ [] }
+after is_out s (Failed l k kind) r = record r { home = r.home + 1 }
+after is_out s (Retried l k n) r = record r { home = r.home + 1 }
+after is_out s (Cut l k c) r = record r { home = more_if is_out r.home }
+after is_out s (Opened l k) r = record r { landed = drop 1 r.landed; reading = Some (record { serial = k; next = s.0; to = s.1 }) }
+after is_out s (Gave l n) r = gives r r.reading
+after is_out s line r = r
 
 -- WHAT EACH STEP WOULD WRITE
 
@@ -41,10 +68,10 @@ abbrev pub rx_done_line : Lane → Receiving → Option Reading → Option Line
 rx_done_line lane r (Some reading) = None
 rx_done_line lane r None = opens lane (first r.landed)
 
--- the serial and the number of the next datagram
-abbrev pub deliver_number : Option Reading → Option (ℕ × ℕ)
-deliver_number None = None
-deliver_number (Some reading) = Some (reading.serial, reading.next)
+-- the next datagram of a transfer, with the bytes that it has there
+abbrev pub deliver_entry : Params → Lane → History → Option (ℕ × ℕ) → Option Entry
+deliver_entry params lane g None = None
+deliver_entry params lane g (Some d) = Some (Gave lane d.1, datagram_bytes params g d.0 d.1)
 
 -- a refill, in a phase in which requests are posted
 abbrev pub post_line : Lane → Receiving → Option Line

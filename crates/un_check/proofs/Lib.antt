@@ -1,0 +1,3 @@
+mod ReceivingLists
+mod ReceivingSpans
+mod ReceivingLanded
