@@ -1,3 +1,6 @@
 mod ReceivingLists
 mod ReceivingSpans
 mod ReceivingLanded
+mod ReceivingOpened
+mod ReceivingGave
+mod ReceivingKept
