@@ -4,3 +4,5 @@ mod ReceivingLanded
 mod ReceivingOpened
 mod ReceivingGave
 mod ReceivingKept
+mod ReceivingSteps
+mod ReceivingPool

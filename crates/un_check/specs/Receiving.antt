@@ -1,6 +1,7 @@
 -- What a checker keeps of a lane's receiving end: how many requests are posted and at home, the transfers that landed and wait to be
 -- opened, and the one that is read.
-use Rattle.std.specs.Prelude.{◌≡◌, ℕ, ◌+◌, ◌-◌, ◌<◌, List, [], Option, Some, None}
+use Rattle.std.specs.Prelude.{◌≡◌, ℕ, ◌+◌, ◌-◌, ◌<◌, Bool, List, [], length, Option, Some, None, is_some}
+use Rattle.un_facts.specs.Numbers.{one_if}
 use Rattle.un_frame.specs.declared.params.Lane.{Lane}
 use Rattle.un_frame.specs.declared.params.Params.{Params}
 use Rattle.un_frame.specs.Lanes.{rx_size}
@@ -43,3 +44,7 @@ pub record IsOf (params : Params) (lane : Lane) (g : History) (r : Receiving) : 
   pub landed_is : arrived g ≡ r.landed
   pub reading_is : current g ≡ serial_in r.reading
   pub left_is : ReadingIs (IsLeft (left_of g)) r.reading
+
+-- each of so many requests is in one place: posted, at home, with a transfer that flies, with one that landed, or with the one that is read
+abbrev pub InPool : ℕ → Bool → Receiving → Type 0
+InPool size is_out r = r.posted + r.home + one_if is_out + length r.landed + one_if (is_some r.reading) ≡ size

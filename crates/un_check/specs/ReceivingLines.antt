@@ -1,5 +1,5 @@
 -- What one more line does to a lane's receiving end, and what each step would write, by what is kept of it.
-use Rattle.std.specs.Prelude.{◌≡◌, ℕ, ◌+◌, ◌-◌, ◌<◌, Bool, ◌==◌, nat_lt, [], ◌∷◌, ◌++◌, drop, Option, Some, None, if◌then◌else◌}
+use Rattle.std.specs.Prelude.{◌≡◌, ℕ, ◌+◌, ◌-◌, ◌<◌, Bool, true, false, ◌==◌, nat_lt, [], ◌∷◌, ◌++◌, drop, Option, Some, None, if◌then◌else◌}
 use Rattle.un_frame.specs.declared.params.Lane.{Lane}
 use Rattle.un_frame.specs.declared.params.Params.{Params}
 use Rattle.un_journal.specs.declared.lines.Line.{Line}
@@ -32,6 +32,23 @@ abbrev pub IsTold : Bool → ℕ × ℕ → Line → History → Type 0
 IsTold is_out s (Cut l k c) g = flies g k ≡ is_out
 IsTold is_out s (Opened l k) g = span g k ≡ Some s
 IsTold is_out s line g = Unit {0}
+
+-- whether a transfer flies before a line that ends or begins a flight, a cut apart
+abbrev pub IsOut : Bool → Line → Type 0
+IsOut is_out (Flying l k) = is_out ≡ false
+IsOut is_out (Landed l k) = is_out ≡ true
+IsOut is_out (Failed l k kind) = is_out ≡ true
+IsOut is_out (Retried l k n) = is_out ≡ true
+IsOut is_out line = Unit {0}
+
+-- and after it
+abbrev pub out_after : Line → Bool → Bool
+out_after (Flying l k) is_out = true
+out_after (Landed l k) is_out = false
+out_after (Failed l k kind) is_out = false
+out_after (Retried l k n) is_out = false
+out_after (Cut l k c) is_out = false
+out_after line is_out = is_out
 
 -- the reading after one more datagram: after the last the transfer is read whole
 abbrev pub next_of : Reading → Option Reading
