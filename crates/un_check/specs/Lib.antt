@@ -3,3 +3,4 @@ pub mod Transfers
 pub mod TransferLines
 pub mod Receiving
 pub mod ReceivingLines
+pub mod ReceivingLaws

@@ -1,2 +1,8 @@
 //! Whether a trace is one that a link may write.
 #![tactic(auto)]
+
+mod laws_receiving;
+
+pub use laws_receiving::{
+    delivery_is_said, post_is_said, receive_pool_is_kept, receiving_is_kept, rx_done_is_said,
+};

@@ -1,0 +1,57 @@
+-- The laws of what a checker keeps of a lane's receiving end. Each is the contract of a public call in src/laws_receiving.rt. A lane's
+-- lines are g, the newest first.
+use Rattle.std.specs.Prelude.{◌≡◌, ℕ, Bool, List, [], ◌∷◌, Option, Some}
+use Rattle.std.specs.Option.{option_map}
+use Rattle.un_frame.specs.declared.params.Lane.{Lane}
+use Rattle.un_frame.specs.declared.params.Params.{Params}
+use Rattle.un_journal.specs.declared.lines.Line.{Line}
+use Rattle.un_journal.specs.declared.lines.Line.TheVariants.{Gave}
+use Rattle.un_journal.specs.History.{History}
+use Rattle.un_journal.specs.Sound.{IsSound}
+use Rattle.un_journal.specs.LaneSteps.{bare, rx_done, deliver_next, post}
+use Rattle.un_check.specs.Says.{Says}
+use Rattle.un_check.specs.Receiving.{Receiving, IsOf, InPool, nothing_received}
+use Rattle.un_check.specs.ReceivingLines.{GoesOn, IsTold, IsOut, after, out_after, rx_done_line, deliver_number, deliver_entry, post_line}
+
+-- WHAT IS KEPT
+
+-- before the first line nothing was received
+abbrev pub NothingIsKept : Type 0
+NothingIsKept = (params : Params) (lane : Lane) → IsOf params lane [] (nothing_received params lane)
+
+-- each line that may follow leaves what is kept of the lines with it
+abbrev pub LineIsKept : Type 0
+LineIsKept = (params : Params) (lane : Lane) (g : History) (r : Receiving) (is_out : Bool) (s : ℕ × ℕ) (line : Line) (bytes : List ℕ)
+    → IsSound ((line, bytes) ∷ g) → IsTold is_out s line g → GoesOn line r → IsOf params lane g r
+    → IsOf params lane ((line, bytes) ∷ g) (after is_out s line r)
+
+-- and no request is lost or doubled
+abbrev pub PoolIsKept : Type 0
+PoolIsKept = (size : ℕ) (is_out : Bool) (s : ℕ × ℕ) (line : Line) (r : Receiving)
+    → IsOut is_out line → GoesOn line r → InPool size is_out r → InPool size (out_after line is_out) (after is_out s line r)
+
+-- WHAT THE STEPS WRITE
+
+-- the done list of the receiving end: what is said is what the step writes, and may follow
+abbrev pub RxDoneIsSaid : Type 0
+RxDoneIsSaid = (params : Params) (lane : Lane) (g : History) (r : Receiving)
+    → IsOf params lane g r → Says (option_map bare (rx_done_line lane r r.reading)) (rx_done lane g)
+
+abbrev pub RxDoneGoesOn : Type 0
+RxDoneGoesOn = (lane : Lane) (r : Receiving) (line : Line) → rx_done_line lane r r.reading ≡ Some line → GoesOn line r
+
+-- a delivery
+abbrev pub DeliveryIsSaid : Type 0
+DeliveryIsSaid = (params : Params) (lane : Lane) (g : History) (r : Receiving)
+    → IsOf params lane g r → Says (deliver_entry params lane g (deliver_number r.reading)) (deliver_next params lane g)
+
+abbrev pub DeliveryGoesOn : Type 0
+DeliveryGoesOn = (lane : Lane) (r : Receiving) (k n : ℕ) → deliver_number r.reading ≡ Some (k, n) → GoesOn (Gave lane n) r
+
+-- a refill
+abbrev pub PostIsSaid : Type 0
+PostIsSaid = (params : Params) (lane : Lane) (g : History) (r : Receiving)
+    → IsOf params lane g r → Says (option_map bare (post_line lane r)) (post params lane g)
+
+abbrev pub PostGoesOn : Type 0
+PostGoesOn = (lane : Lane) (r : Receiving) (line : Line) → post_line lane r ≡ Some line → GoesOn line r
