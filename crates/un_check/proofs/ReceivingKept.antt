@@ -12,7 +12,8 @@ use Rattle.un_journal.specs.History.{History, made, span, flies, opened, gave, s
 use Rattle.un_journal.specs.Lookup.{rx_back}
 use Rattle.un_journal.specs.Sound.{IsSound, IsNextNumber, IsFirstArrived}
 use Rattle.un_journal.proofs.ForLane.{left_here, delivered_more, current_none, current_stays}
-use Rattle.un_check.specs.Receiving.{Reading, Receiving, IsOf, IsLeft, ReadingIs, serial_in, nothing_received}
+use Rattle.un_check.specs.declared.reading.Reading.{Reading}
+use Rattle.un_check.specs.Receiving.{Receiving, IsOf, IsLeft, ReadingIs, serial_in, nothing_received}
 use Rattle.un_check.specs.ReceivingLines.{GoesOn, IsTold, after, gives, next_of, next_in}
 use Rattle.un_check.proofs.ReceivingLists.{first_rest, row_step}
 use Rattle.un_check.proofs.ReceivingSpans.{left_whole}

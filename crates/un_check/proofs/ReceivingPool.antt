@@ -8,7 +8,8 @@ use Rattle.un_frame.specs.declared.params.Params.{Params}
 use Rattle.un_journal.specs.declared.lines.Line.{Line}
 use Rattle.un_journal.specs.declared.lines.Line.TheVariants.{Posted, Flying, Landed, Failed, Retried, Cut, Opened, Gave, Recalled}
 use Rattle.un_journal.specs.History.{more_if, first}
-use Rattle.un_check.specs.Receiving.{Reading, Receiving, InPool}
+use Rattle.un_check.specs.declared.reading.Reading.{Reading}
+use Rattle.un_check.specs.Receiving.{Receiving, InPool}
 use Rattle.un_check.specs.ReceivingLines.{GoesOn, after, gives, next_in, out_after, IsOut}
 use Rattle.un_check.proofs.ReceivingLists.{first_rest}
 

@@ -12,7 +12,8 @@ use Rattle.un_journal.specs.History.{History, current, left_of, arrived, posts, 
 use Rattle.un_journal.specs.Lookup.{rx_home, rx_back}
 use Rattle.un_journal.specs.LaneSteps.{Writes, Answers, bare, rx_done, rx_done_at, open_first, deliver_next, deliver_current, post}
 use Rattle.un_check.specs.Says.{Says}
-use Rattle.un_check.specs.Receiving.{Reading, Receiving, IsOf, IsLeft, ReadingIs, serial_in}
+use Rattle.un_check.specs.declared.reading.Reading.{Reading}
+use Rattle.un_check.specs.Receiving.{Receiving, IsOf, IsLeft, ReadingIs, serial_in}
 use Rattle.un_check.specs.ReceivingLines.{GoesOn, opens, rx_done_line, deliver_number, deliver_entry, next_in, post_line}
 use Rattle.un_check.proofs.ReceivingLists.{row_step}
 

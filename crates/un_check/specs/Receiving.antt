@@ -7,13 +7,9 @@ use Rattle.un_frame.specs.declared.params.Params.{Params}
 use Rattle.un_frame.specs.Lanes.{rx_size}
 use Rattle.un_journal.specs.History.{History, arrived, current, left_of, row_from, posts, recalls, flights}
 use Rattle.un_journal.specs.Lookup.{rx_back}
+use Rattle.un_check.specs.declared.reading.Reading.{Reading}
 
--- a transfer that is read: its serial, its next datagram, and one more than its last
-pub record Reading : Type 0 where
-  pub serial : ℕ
-  pub next : ℕ
-  pub to : ℕ
-
+-- the requests posted and at home, the transfers that landed and aren't opened, by serial, and the one that is read
 pub record Receiving : Type 0 where
   pub posted : ℕ
   pub home : ℕ

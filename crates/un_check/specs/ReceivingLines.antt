@@ -6,7 +6,8 @@ use Rattle.un_journal.specs.declared.lines.Line.{Line}
 use Rattle.un_journal.specs.declared.lines.Line.TheVariants.{Posted, Flying, Landed, Failed, Retried, Cut, Opened, Gave, Recalled}
 use Rattle.un_journal.specs.History.{Entry, History, first, more_if, flies, span}
 use Rattle.un_journal.specs.LaneSteps.{datagram_bytes}
-use Rattle.un_check.specs.Receiving.{Reading, Receiving}
+use Rattle.un_check.specs.declared.reading.Reading.{Reading}
+use Rattle.un_check.specs.Receiving.{Receiving}
 
 -- the serial and the number of the next datagram, and the number alone
 abbrev pub deliver_number : Option Reading → Option (ℕ × ℕ)
