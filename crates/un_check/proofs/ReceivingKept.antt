@@ -1,6 +1,6 @@
 -- One line more: what is kept of a lane's receiving end goes on with it.
 use Rattle.std.proofs.Common.{◌≡◌, ℕ, ◌+◌, ◌-◌, ◌<◌, ◌≤◌, Bool, true, false, List, [], ◌∷◌, ◌++◌, drop, length, Option, Some, None, inl, inr, refl, sym, ap, ◌∙◌, subst, arith, nat_lt, if◌then◌else◌}
-use Rattle.std.proofs.lemmas.Bool.Decides.{nat_tests}
+use Rattle.std.proofs.lemmas.Bool.{ltb-true, ltb-false}
 use Rattle.std.proofs.lemmas.Option.{same_Some, none-some}
 use Rattle.un_facts.specs.Lists.{is_empty}
 use Rattle.un_frame.specs.declared.params.Lane.{Lane}
@@ -15,17 +15,11 @@ use Rattle.un_journal.proofs.ForLane.{left_here, delivered_more, current_none, c
 use Rattle.un_check.specs.declared.reading.Reading.{Reading}
 use Rattle.un_check.specs.Receiving.{Receiving, IsOf, IsLeft, ReadingIs, serial_in, nothing_received}
 use Rattle.un_check.specs.ReceivingLines.{GoesOn, IsTold, after, gives, next_of, next_in}
-use Rattle.un_check.proofs.ReceivingLists.{first_rest, row_step}
+use Rattle.un_check.proofs.ReceivingLists.{first_rest, row_some}
 use Rattle.un_check.proofs.ReceivingSpans.{left_whole}
 use Rattle.un_check.proofs.ReceivingLanded.{landed_arrived, landed_delivered, made_arrived, made_current, made_delivered, made_left}
 use Rattle.un_check.proofs.ReceivingOpened.{opened_arrived, opened_current, opened_some}
 use Rattle.un_check.proofs.ReceivingGave.{current_opened, left_owner}
-
-lt_true : (a b : ℕ) → nat_lt a b ≡ true → a < b
-lt_true a b e = grind (arith, nat_tests)
-
-lt_false : (a b : ℕ) → nat_lt a b ≡ false → b ≤ a
-lt_false a b e = grind (arith, nat_tests)
 
 -- no lines yet
 pub begins : (params : Params) (lane : Lane) → IsOf params lane [] (nothing_received params lane)
@@ -86,11 +80,11 @@ opened_kept params lane l k s bytes g r sound here is goes w =
 
 module _ (params : Params) (lane l : Lane) (bytes : List ℕ) (g : History) (r : Receiving) (o : Reading) (sound : IsSound g) (next : IsNextNumber g o.next) (w : IsOf params lane g r)
     (now : current g ≡ Some o.serial) (left : IsLeft (left_of g) o) where
-  rest : List ℕ
-  rest = row_from (o.next + 1) (o.to - (o.next + 1))
-
   left_row : left_of g o.serial ≡ o.next ∷ row_from (o.next + 1) (o.to - (o.next + 1))
-  left_row = left.numbers ∙ row_step o.next o.to left.some
+  left_row =
+      let many : o.next < o.to = left.some in
+      let fewer : o.to - o.next - 1 ≡ o.to - (o.next + 1) = omega arith in
+      left.numbers ∙ (row_some o.next (o.to - o.next) (omega arith) ∙ ap (λ m. o.next ∷ row_from (o.next + 1) m) fewer)
 
   was_opened : opened g o.serial ≡ true
   was_opened = (current_opened g o.serial now).0
@@ -100,15 +94,15 @@ module _ (params : Params) (lane l : Lane) (bytes : List ℕ) (g : History) (r :
 
   given_more : o.next + 1 < o.to → IsOf params lane ((Gave l o.next, bytes) ∷ g) (record r { reading = Some (record o { next = o.next + 1 }) })
   given_more h =
-      let row : row_from (o.next + 1) (o.to - (o.next + 1)) ≡ (o.next + 1) ∷ row_from (o.next + 1 + 1) (o.to - (o.next + 1 + 1)) = row_step (o.next + 1) o.to h in
-      let two : left_of g o.serial ≡ o.next ∷ (o.next + 1) ∷ row_from (o.next + 1 + 1) (o.to - (o.next + 1 + 1)) = left_row ∙ ap (λ xs. o.next ∷ xs) row in
+      let two : left_of g o.serial ≡ o.next ∷ (o.next + 1) ∷ row_from (o.next + 1 + 1) (o.to - (o.next + 1) - 1) =
+      left_row ∙ ap (λ xs. o.next ∷ xs) (row_some (o.next + 1) (o.to - (o.next + 1)) (omega arith)) in
       let whole : length (delivered ((Gave l o.next, bytes) ∷ g)) ≡ length (delivered g) + 0 =
-      delivered_more l o.next o.serial bytes g sound mine ((o.next + 1) ∷ row_from (o.next + 1 + 1) (o.to - (o.next + 1 + 1))) was_opened two in
+      delivered_more l o.next o.serial bytes g sound mine ((o.next + 1) ∷ row_from (o.next + 1 + 1) (o.to - (o.next + 1) - 1)) was_opened two in
       record {
         posted_is = w.posted_is;
         home_is = let e : r.home + posts g ≡ rx_back params lane g = w.home_is in omega arith;
         landed_is = w.landed_is;
-        reading_is = current_stays l o.next o.serial bytes g sound mine (o.next + 1) (row_from (o.next + 1 + 1) (o.to - (o.next + 1 + 1))) was_opened next.is_left two;
+        reading_is = current_stays l o.next o.serial bytes g sound mine (o.next + 1) (row_from (o.next + 1 + 1) (o.to - (o.next + 1) - 1)) was_opened next.is_left two;
         left_is = record { numbers = left_here l o.next o.serial bytes g sound mine (row_from (o.next + 1) (o.to - (o.next + 1))) left_row; some = h };
       }
 
@@ -127,8 +121,8 @@ module _ (params : Params) (lane l : Lane) (bytes : List ℕ) (g : History) (r :
 
   given_either : (b : Bool) → nat_lt (o.next + 1) o.to ≡ b
       → IsOf params lane ((Gave l o.next, bytes) ∷ g) (record r { reading = if b then Some (record o { next = o.next + 1 }) else None; home = if b then r.home else r.home + 1 })
-  given_either true e = given_more (lt_true (o.next + 1) o.to e)
-  given_either false e = given_last (lt_false (o.next + 1) o.to e)
+  given_either true e = given_more (ltb-true (o.next + 1) o.to e)
+  given_either false e = given_last (ltb-false (o.next + 1) o.to e)
 
   pub given_kept : IsOf params lane ((Gave l o.next, bytes) ∷ g) (gives r (Some o))
   given_kept = given_either (nat_lt (o.next + 1) o.to) refl

@@ -37,8 +37,9 @@ in_row p a (suc m) n ns e = go (p a) e (in_row p (a + 1) m n ns)
     go false e rec = let r = rec e in (omega (arith, r.0), omega (arith, r.1))
 
 -- a row that isn't empty
-pub row_step : (n to' : ℕ) → n < to' → row_from n (to' - n) ≡ n ∷ row_from (n + 1) (to' - (n + 1))
-row_step n to' h = ap (row_from n) (let e : to' - n ≡ suc (to' - (n + 1)) = omega arith in e)
+pub row_some : (a m : ℕ) → 0 < m → row_from a m ≡ a ∷ row_from (a + 1) (m - 1)
+row_some a zero some = absurd (omega arith)
+row_some a (suc m) some = ap (λ n. a ∷ row_from (a + 1) n) (let rest : m ≡ suc m - 1 = omega arith in rest)
 
 -- a list by its first
 pub first_rest : (xs : List ℕ) (k : ℕ) → first xs ≡ Some k → xs ≡ k ∷ drop 1 xs

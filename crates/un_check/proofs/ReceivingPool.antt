@@ -54,3 +54,6 @@ in_pool size is_out s (Opened l k) r out goes w =
     let none : one_if (is_some r.reading) ≡ 0 = ap (λ o. one_if (is_some o)) goes.1 in omega arith
 in_pool size is_out s (Gave l n) r out goes w = given_in size is_out r r.reading n refl goes w
 in_pool size is_out s line r out goes w = w
+
+pub in_pool_below : (size : ℕ) (is_out : Bool) (r : Receiving) → InPool size is_out r → r.posted + r.home ≤ size
+in_pool_below size is_out r w = let sum : r.posted + r.home + one_if is_out + length r.landed + one_if (is_some r.reading) ≡ size = w in omega arith

@@ -7,7 +7,7 @@ use Rattle.un_journal.specs.declared.lines.Line.TheVariants.{Made}
 use Rattle.un_journal.specs.History.{History, made, span, told_if, serial_of, opened, landed, gave, left_of, row_from}
 use Rattle.un_journal.specs.Sound.{IsSound}
 use Rattle.un_journal.proofs.ForLane.{owns_span, left_is, given_from, fresh, status_of, is_arrived}
-use Rattle.un_check.proofs.ReceivingLists.{all_pass, row_step}
+use Rattle.un_check.proofs.ReceivingLists.{all_pass, row_some}
 
 pub record HasNumbers (o : Option (ℕ × ℕ)) : Type 0 where
   pub from : ℕ
@@ -45,4 +45,4 @@ left_whole g sound k a b closed s =
     left_is g k a b s ∙ all_pass (λ n. not (gave g n)) a (b - a) (λ n lo hi. rw (ungiven g sound k a b n closed s lo (omega arith)) refl)
 
 pub left_some : (g : History) → IsSound g → (k a b : ℕ) → opened g k ≡ false → span g k ≡ Some (a, b) → a < b → is_empty (left_of g k) ≡ false
-left_some g sound k a b closed s some = ap is_empty (left_whole g sound k a b closed s ∙ row_step a b some)
+left_some g sound k a b closed s some = ap is_empty (left_whole g sound k a b closed s ∙ row_some a (b - a) (omega arith))

@@ -1,5 +1,5 @@
 -- What each step of a receiving end would write, and that such a line is this end's next.
-use Rattle.std.proofs.Common.{◌≡◌, ℕ, ◌+◌, ◌<◌, Bool, true, false, ◌==◌, List, [], ◌∷◌, Option, Some, None, refl, sym, ap, ◌∙◌, subst, arith, if◌then◌else◌}
+use Rattle.std.proofs.Common.{◌≡◌, ℕ, ◌+◌, ◌-◌, ◌<◌, Bool, true, false, ◌==◌, List, [], ◌∷◌, Option, Some, None, refl, sym, ap, ◌∙◌, subst, arith, if◌then◌else◌}
 use Rattle.std.specs.Option.{option_map}
 use Rattle.std.proofs.lemmas.Bool.Decides.{nat_tests}
 use Rattle.std.proofs.lemmas.Option.{same_Some, none-some}
@@ -8,14 +8,14 @@ use Rattle.un_frame.specs.declared.params.Params.{Params}
 use Rattle.un_journal.specs.declared.lines.Line.{Line}
 use Rattle.un_journal.specs.declared.lines.Line.TheVariants.{Posted, Opened, Gave}
 use Rattle.un_journal.specs.declared.actions.Answer.{Answer}
-use Rattle.un_journal.specs.History.{History, current, left_of, arrived, posts, first}
+use Rattle.un_journal.specs.History.{History, current, left_of, arrived, posts, recalls, flights, posted, first}
 use Rattle.un_journal.specs.Lookup.{rx_home, rx_back}
 use Rattle.un_journal.specs.LaneSteps.{Writes, Answers, bare, rx_done, rx_done_at, open_first, deliver_next, deliver_current, post}
 use Rattle.un_check.specs.Says.{Says}
 use Rattle.un_check.specs.declared.reading.Reading.{Reading}
 use Rattle.un_check.specs.Receiving.{Receiving, IsOf, IsLeft, ReadingIs, serial_in}
 use Rattle.un_check.specs.ReceivingLines.{GoesOn, opens, rx_done_line, deliver_number, deliver_entry, next_in, post_line}
-use Rattle.un_check.proofs.ReceivingLists.{row_step}
+use Rattle.un_check.proofs.ReceivingLists.{row_some}
 
 -- OPENING
 
@@ -46,7 +46,7 @@ rx_done_goes lane r line e = rx_done_at_goes lane r line r.reading refl e
 deliver_at_says : (params : Params) (lane : Lane) (g : History) (o : Option Reading) → current g ≡ serial_in o → ReadingIs (IsLeft (left_of g)) o
     → Says (deliver_entry params lane g (deliver_number o)) (deliver_next params lane g)
 deliver_at_says params lane g None now left = rw now refl
-deliver_at_says params lane g (Some o) now left = rw (now, left.numbers, row_step o.next o.to left.some) refl
+deliver_at_says params lane g (Some o) now left = rw (now, left.numbers, row_some o.next (o.to - o.next) (let many : o.next < o.to = left.some in omega arith)) refl
 
 pub deliver_says : (params : Params) (lane : Lane) (g : History) (r : Receiving) → IsOf params lane g r → Says (deliver_entry params lane g (deliver_number r.reading)) (deliver_next params lane g)
 deliver_says params lane g r w = deliver_at_says params lane g r.reading w.reading_is w.left_is
@@ -58,6 +58,14 @@ deliver_at_goes k n (Some o) e = ap (λ (d : ℕ × ℕ). Some d.1) (same_Some (
 pub deliver_goes : (lane : Lane) (r : Receiving) (k n : ℕ) → deliver_number r.reading ≡ Some (k, n) → GoesOn (Gave lane n) r
 deliver_goes lane r k n e = deliver_at_goes k n r.reading e
 
+-- COUNTS
+
+pub home_counts : (params : Params) (lane : Lane) (g : History) (r : Receiving) → IsOf params lane g r → rx_home params lane g ≡ r.home
+home_counts params lane g r w = let e : r.home + posts g ≡ rx_back params lane g = w.home_is in omega arith
+
+pub posted_counts : (params : Params) (lane : Lane) (g : History) (r : Receiving) → IsOf params lane g r → posted g ≡ r.posted
+posted_counts params lane g r w = let e : recalls g + flights g + r.posted ≡ posts g = w.posted_is in omega arith
+
 -- POSTING
 
 post_at_says : (lane : Lane) (b : Bool) → Says (option_map bare (if b then None else Some (Posted lane))) (if b then Answers Answer.Nothing else Writes (bare (Posted lane) ∷ []))
@@ -66,8 +74,8 @@ post_at_says lane false = refl
 
 pub post_says : (params : Params) (lane : Lane) (g : History) (r : Receiving) → IsOf params lane g r → Says (option_map bare (post_line lane r)) (post params lane g)
 post_says params lane g r w =
-    let same : rx_home params lane g ≡ r.home = let e : r.home + posts g ≡ rx_back params lane g = w.home_is in omega arith in
-    subst (λ n. Says (option_map bare (post_line lane r)) (if n == 0 then Answers Answer.Nothing else Writes (bare (Posted lane) ∷ []))) (sym same) (post_at_says lane (r.home == 0))
+    subst (λ n. Says (option_map bare (post_line lane r)) (if n == 0 then Answers Answer.Nothing else Writes (bare (Posted lane) ∷ [])))
+    (sym (home_counts params lane g r w)) (post_at_says lane (r.home == 0))
 
 post_at_goes : (lane : Lane) (r : Receiving) (line : Line) (b : Bool) → (r.home == 0) ≡ b → (if b then None else Some (Posted lane)) ≡ Some line → GoesOn line r
 post_at_goes lane r line true is e = absurd (none-some line e)

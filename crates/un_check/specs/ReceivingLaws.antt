@@ -1,12 +1,14 @@
 -- The laws of what a checker keeps of a lane's receiving end. Each is the contract of a public call in src/laws_receiving.rt. A lane's
 -- lines are g, the newest first.
-use Rattle.std.specs.Prelude.{◌≡◌, ℕ, Bool, List, [], ◌∷◌, Option, Some}
+use Rattle.std.specs.Prelude.{◌≡◌, ℕ, ◌+◌, ◌≤◌, Bool, false, List, [], ◌∷◌, Option, Some}
 use Rattle.std.specs.Option.{option_map}
 use Rattle.un_frame.specs.declared.params.Lane.{Lane}
 use Rattle.un_frame.specs.declared.params.Params.{Params}
+use Rattle.un_frame.specs.Lanes.{rx_size}
 use Rattle.un_journal.specs.declared.lines.Line.{Line}
 use Rattle.un_journal.specs.declared.lines.Line.TheVariants.{Gave}
-use Rattle.un_journal.specs.History.{History}
+use Rattle.un_journal.specs.History.{History, posted}
+use Rattle.un_journal.specs.Lookup.{rx_home}
 use Rattle.un_journal.specs.Sound.{IsSound}
 use Rattle.un_journal.specs.LaneSteps.{bare, rx_done, deliver_next, post}
 use Rattle.un_check.specs.Says.{Says}
@@ -25,10 +27,23 @@ LineIsKept = (params : Params) (lane : Lane) (g : History) (r : Receiving) (is_o
     → IsSound ((line, bytes) ∷ g) → IsTold is_out s line g → GoesOn line r → IsOf params lane g r
     → IsOf params lane ((line, bytes) ∷ g) (after is_out s line r)
 
--- and no request is lost or doubled
+-- no request is lost or doubled by a line: at first all are at home, and no more than all are ever posted or at home
 abbrev pub PoolIsKept : Type 0
 PoolIsKept = (size : ℕ) (is_out : Bool) (s : ℕ × ℕ) (line : Line) (r : Receiving)
     → IsOut is_out line → GoesOn line r → InPool size is_out r → InPool size (out_after line is_out) (after is_out s line r)
+
+abbrev pub PoolIsFull : Type 0
+PoolIsFull = (params : Params) (lane : Lane) → InPool (rx_size params lane) false (nothing_received params lane)
+
+abbrev pub PoolIsBound : Type 0
+PoolIsBound = (size : ℕ) (is_out : Bool) (r : Receiving) → InPool size is_out r → r.posted + r.home ≤ size
+
+-- the counts are those of the lines
+abbrev pub HomeIsSaid : Type 0
+HomeIsSaid = (params : Params) (lane : Lane) (g : History) (r : Receiving) → IsOf params lane g r → rx_home params lane g ≡ r.home
+
+abbrev pub PostedIsSaid : Type 0
+PostedIsSaid = (params : Params) (lane : Lane) (g : History) (r : Receiving) → IsOf params lane g r → posted g ≡ r.posted
 
 -- WHAT THE STEPS WRITE
 

@@ -3,11 +3,15 @@
 ghost use Rattle.un_check.specs.ReceivingLaws.{
   DeliveryGoesOn,
   DeliveryIsSaid,
+  HomeIsSaid,
   LineIsKept,
   NothingIsKept,
+  PoolIsBound,
+  PoolIsFull,
   PoolIsKept,
   PostGoesOn,
   PostIsSaid,
+  PostedIsSaid,
   RxDoneGoesOn,
   RxDoneIsSaid,
 };
@@ -18,9 +22,18 @@ pub fn receiving_is_kept()
     ensures line { LineIsKept }
 {}
 
-/// Each receive request stays in one place: posted, at home, in flight, landed or read.
+/// Each receive request stays in one place: posted, at home, in flight, landed or read. So no more than all of them are posted or at
+/// home.
 pub fn receive_pool_is_kept()
-    ensures { PoolIsKept }
+    ensures full { PoolIsFull }
+    ensures line { PoolIsKept }
+    ensures bound { PoolIsBound }
+{}
+
+/// The requests that are said to be at home and posted are those that the lane's lines leave there.
+pub fn receive_counts_are_said()
+    ensures home { HomeIsSaid }
+    ensures posted { PostedIsSaid }
 {}
 
 /// What is said of the next transfer that is opened is what this step writes, and such a line may follow.

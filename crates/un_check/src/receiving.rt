@@ -1,6 +1,6 @@
 //! What a checker keeps of a lane's receiving end.
 
-ghost use Rattle.std.specs.Prelude.{◌≡◌, ◌+◌, ◌<◌, [], None, IfOk};
+ghost use Rattle.std.specs.Prelude.{◌≡◌, ◌+◌, ◌<◌, [], None, IfErr, IfOk};
 ghost use Rattle.un_check.specs.ReceivingLines.{GoesOn, after, deliver_number, gives, next_of, post_line, rx_done_line};
 
 use crate::reading::Reading;
@@ -58,11 +58,12 @@ impl Receiving {
 
     /// Adds a line of the lane, which has to be this end's next. `is_out` says whether a transfer flew before it, and `span` is the
     /// first datagram and one more than the last of the transfer that an `Opened` line names; other lines don't read it. An error
-    /// is want of memory, which a `Landed` line alone takes.
+    /// is want of memory, which a `Landed` line alone takes; nothing is changed then.
     pub fn add(&mut self, is_out: bool, span: (u64, u64), line: Line) -> Result<(), AllocError>
         requires next { GoesOn line self.old }
         requires room { self.old.posted + self.old.home < 18446744073709551615 }
-        ensures { IfOk result (λ _. self.new ≡ after is_out span line self.old) }
+        ensures ok { IfOk result (λ _. self.new ≡ after is_out span line self.old) }
+        ensures err { IfErr result (λ _. self.new ≡ self.old) }
     {
         match line {
             Line::Posted { .. } => {
