@@ -1,5 +1,5 @@
 -- The number that a transfer which is read gives next: whose it is, and that its transfer was opened.
-use Rattle.std.proofs.Common.{◌≡◌, ℕ, ◌+◌, ◌-◌, ◌<◌, ◌≤◌, true, not, ◌&&◌, List, ◌∷◌, Option, Some, None, refl, ap, ◌∙◌, sym, arith, filter}
+use Rattle.std.proofs.Common.{◌≡◌, ℕ, ◌+◌, ◌-◌, ◌<◌, ◌≤◌, true, not, ◌&&◌, List, ◌∷◌, Option, Some, None, refl, arith, filter}
 use Rattle.un_facts.specs.Lists.{is_empty}
 use Rattle.un_facts.proofs.Booleans.{and_first}
 use Rattle.un_journal.specs.History.{History, made, opened, current, serial_of, gave, span, span_numbers, left_of}

@@ -1,20 +1,19 @@
 -- One line more: what is kept of a lane's receiving end goes on with it.
-use Rattle.std.proofs.Common.{◌≡◌, ℕ, ◌+◌, ◌-◌, ◌<◌, ◌≤◌, Bool, true, false, List, [], ◌∷◌, ◌++◌, drop, length, Option, Some, None, inl, inr, refl, sym, ap, ◌∙◌, subst, arith, nat_lt, if◌then◌else◌}
+use Rattle.std.proofs.Common.{◌≡◌, ℕ, ◌+◌, ◌-◌, ◌<◌, ◌≤◌, Bool, true, false, List, [], ◌∷◌, ◌++◌, drop, length, Option, Some, None, refl, sym, ap, ◌∙◌, subst, arith, nat_lt, if◌then◌else◌}
 use Rattle.std.proofs.lemmas.Bool.{ltb-true, ltb-false}
 use Rattle.std.proofs.lemmas.Option.{same_Some, none-some}
-use Rattle.un_facts.specs.Lists.{is_empty}
 use Rattle.un_frame.specs.declared.params.Lane.{Lane}
 use Rattle.un_frame.specs.declared.params.Params.{Params}
 use Rattle.un_frame.specs.Lanes.{rx_size}
 use Rattle.un_journal.specs.declared.lines.Line.{Line}
 use Rattle.un_journal.specs.declared.lines.Line.TheVariants.{Made, Posted, Flying, Landed, Failed, Retried, Cut, Opened, Gave, Recalled}
-use Rattle.un_journal.specs.History.{History, made, span, flies, opened, gave, serial_of, left_of, row_from, current, arrived, delivered, posts, recalls, flights, failures, retries, flight_cuts, more_if, first}
+use Rattle.un_journal.specs.History.{History, made, span, flies, opened, serial_of, left_of, row_from, current, arrived, delivered, posts, recalls, flights, failures, retries, flight_cuts, more_if, first}
 use Rattle.un_journal.specs.Lookup.{rx_back}
 use Rattle.un_journal.specs.Sound.{IsSound, IsNextNumber, IsFirstArrived}
 use Rattle.un_journal.proofs.ForLane.{left_here, delivered_more, current_none, current_stays}
 use Rattle.un_check.specs.declared.reading.Reading.{Reading}
 use Rattle.un_check.specs.Receiving.{Receiving, IsOf, IsLeft, ReadingIs, serial_in, nothing_received}
-use Rattle.un_check.specs.ReceivingLines.{GoesOn, IsTold, after, gives, next_of, next_in}
+use Rattle.un_check.specs.ReceivingLines.{GoesOn, IsTold, after, gives, next_in}
 use Rattle.un_check.proofs.ReceivingLists.{first_rest, row_some}
 use Rattle.un_check.proofs.ReceivingSpans.{left_whole}
 use Rattle.un_check.proofs.ReceivingLanded.{landed_arrived, landed_delivered, made_arrived, made_current, made_delivered, made_left}

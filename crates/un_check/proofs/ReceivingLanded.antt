@@ -1,12 +1,12 @@
 -- What a landed and a made line change at the receiving end: one more transfer has arrived, or nothing.
-use Rattle.std.proofs.Common.{◌≡◌, ℕ, ◌+◌, ◌<◌, ◌≤◌, Bool, true, false, not, ◌&&◌, ◌||◌, ◌==◌, List, [], ◌∷◌, ◌++◌, length, Option, Some, None, inl, inr, refl, sym, ap, ◌∙◌, subst, arith}
-use Rattle.std.proofs.lemmas.Bool.{false≢true, cases_eq, cases_Bool, cases_lt, eq-eqb, ne_eqb}
+use Rattle.std.proofs.Common.{◌≡◌, ℕ, ◌+◌, ◌<◌, ◌≤◌, Bool, true, false, not, ◌&&◌, ◌||◌, ◌==◌, List, [], ◌∷◌, ◌++◌, length, inl, inr, refl, sym, ap, ◌∙◌, subst, arith}
+use Rattle.std.proofs.lemmas.Bool.{false≢true, cases_eq, cases_Bool, eq-eqb, ne_eqb}
 use Rattle.un_facts.specs.Lists.{is_empty}
 use Rattle.un_frame.specs.declared.params.Lane.{Lane}
 use Rattle.un_journal.specs.declared.lines.Line.TheVariants.{Landed, Made}
 use Rattle.un_journal.specs.History.{History, made, those, flies, landed, failed, was_cut, opened, arrived, current, delivered, left_of, first, ends}
 use Rattle.un_journal.specs.Sound.{IsSound}
-use Rattle.un_journal.proofs.ForLane.{those_same, opened_landed, flying_made, in_turn, top_below, top, landed_below, in_order, flight_is, aloft_only, status, status_of}
+use Rattle.un_journal.proofs.ForLane.{those_same, opened_landed, flying_made, landed_below, in_order, flight_is, aloft_only, status, status_of}
 use Rattle.un_check.proofs.ReceivingLists.{those_until, those_one_more}
 use Rattle.un_check.proofs.ReceivingSpans.{has_numbers, left_some, unlanded}
 

@@ -1,5 +1,5 @@
 -- Numbers that pass a test, where from some number on none passes, and rows of which all or the first pass.
-use Rattle.std.proofs.Common.{◌≡◌, ℕ, zero, suc, ◌+◌, ◌-◌, ◌<◌, ◌≤◌, Bool, true, false, List, [], ◌∷◌, ◌++◌, drop, Some, inl, inr, refl, sym, ap, ◌∙◌, subst, arith, append-nil, filter, if◌then◌else◌}
+use Rattle.std.proofs.Common.{◌≡◌, ℕ, zero, suc, ◌+◌, ◌-◌, ◌<◌, ◌≤◌, Bool, true, false, List, [], ◌∷◌, ◌++◌, drop, Some, inl, inr, refl, sym, ap, ◌∙◌, arith, append-nil, filter, if◌then◌else◌}
 use Rattle.std.proofs.lemmas.Bool.{cases_lt}
 use Rattle.std.proofs.lemmas.Option.{same_Some}
 use Rattle.un_facts.proofs.Lists.{cons_parts}

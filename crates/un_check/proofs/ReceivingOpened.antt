@@ -1,12 +1,12 @@
 -- What an opened line changes at the receiving end: the first transfer that arrived is the current one, with its whole span left.
-use Rattle.std.proofs.Common.{◌≡◌, ℕ, ◌+◌, ◌<◌, Bool, false, not, ◌&&◌, ◌||◌, ◌==◌, List, [], ◌∷◌, Some, None, refl, sym, ap, ◌∙◌, subst, arith}
+use Rattle.std.proofs.Common.{◌≡◌, ℕ, ◌<◌, not, ◌&&◌, ◌||◌, ◌==◌, List, [], ◌∷◌, Some, None, refl, sym, ap, ◌∙◌, subst, arith}
 use Rattle.std.proofs.lemmas.Bool.{eq-eqb, ne_eqb}
 use Rattle.std.proofs.lemmas.Option.{same_Some}
 use Rattle.un_facts.specs.Lists.{is_empty}
 use Rattle.un_facts.proofs.Booleans.{and_false}
 use Rattle.un_frame.specs.declared.params.Lane.{Lane}
 use Rattle.un_journal.specs.declared.lines.Line.TheVariants.{Opened}
-use Rattle.un_journal.specs.History.{History, made, those, landed, opened, arrived, current, left_of, first, span, row_from}
+use Rattle.un_journal.specs.History.{History, made, those, landed, opened, arrived, current, left_of, first, span}
 use Rattle.un_journal.specs.Sound.{IsSound, IsFirstArrived}
 use Rattle.un_journal.proofs.ForLane.{those_first, those_none, those_rest, those_first_is}
 use Rattle.un_check.proofs.ReceivingSpans.{has_numbers, left_some}

@@ -1,5 +1,5 @@
 -- What each step of a receiving end would write, and that such a line is this end's next.
-use Rattle.std.proofs.Common.{◌≡◌, ℕ, ◌+◌, ◌-◌, ◌<◌, Bool, true, false, ◌==◌, List, [], ◌∷◌, Option, Some, None, refl, sym, ap, ◌∙◌, subst, arith, if◌then◌else◌}
+use Rattle.std.proofs.Common.{◌≡◌, ℕ, ◌+◌, ◌-◌, ◌<◌, Bool, true, false, ◌==◌, List, [], ◌∷◌, Option, Some, None, refl, sym, ap, subst, arith, if◌then◌else◌}
 use Rattle.std.specs.Option.{option_map}
 use Rattle.std.proofs.lemmas.Bool.Decides.{nat_tests}
 use Rattle.std.proofs.lemmas.Option.{same_Some, none-some}
@@ -10,7 +10,7 @@ use Rattle.un_journal.specs.declared.lines.Line.TheVariants.{Posted, Opened, Gav
 use Rattle.un_journal.specs.declared.actions.Answer.{Answer}
 use Rattle.un_journal.specs.History.{History, current, left_of, arrived, posts, recalls, flights, posted, first}
 use Rattle.un_journal.specs.Lookup.{rx_home, rx_back}
-use Rattle.un_journal.specs.LaneSteps.{Writes, Answers, bare, rx_done, rx_done_at, open_first, deliver_next, deliver_current, post}
+use Rattle.un_journal.specs.LaneSteps.{Writes, Answers, bare, rx_done, open_first, deliver_next, post}
 use Rattle.un_check.specs.Says.{Says}
 use Rattle.un_check.specs.declared.reading.Reading.{Reading}
 use Rattle.un_check.specs.Receiving.{Receiving, IsOf, IsLeft, ReadingIs, serial_in}

@@ -1,6 +1,6 @@
 -- The laws of what a checker keeps of a lane's receiving end. Each is the contract of a public call in src/laws_receiving.rt. A lane's
 -- lines are g, the newest first.
-use Rattle.std.specs.Prelude.{◌≡◌, ℕ, ◌+◌, ◌≤◌, Bool, false, List, [], ◌∷◌, Option, Some}
+use Rattle.std.specs.Prelude.{◌≡◌, ℕ, ◌+◌, ◌≤◌, Bool, false, List, [], ◌∷◌, Some}
 use Rattle.std.specs.Option.{option_map}
 use Rattle.un_frame.specs.declared.params.Lane.{Lane}
 use Rattle.un_frame.specs.declared.params.Params.{Params}

@@ -6,8 +6,8 @@ mod reading;
 mod receiving;
 
 pub use laws_receiving::{
-    delivery_is_said, post_is_said, receive_counts_are_said, receive_pool_is_kept, receiving_is_kept,
-    rx_done_is_said,
+    delivery_is_said, post_is_said, receive_counts_are_said, receive_pool_is_kept,
+    receiving_is_kept, rx_done_is_said,
 };
 pub use reading::Reading;
 pub use receiving::Receiving;
