@@ -1,5 +1,5 @@
 -- What each step of a receiving end would write, and that such a line is this end's next.
-use Rattle.std.proofs.Common.{◌≡◌, ℕ, ◌+◌, ◌-◌, ◌<◌, Bool, true, false, ◌==◌, List, [], ◌∷◌, Option, Some, None, refl, sym, ap, subst, arith, if◌then◌else◌}
+use Rattle.std.proofs.Common.{◌≡◌, ℕ, ◌+◌, ◌-◌, ◌<◌, Bool, true, false, ◌==◌, List, [], ◌∷◌, Option, Some, None, refl, sym, ap, ◌∙◌, subst, arith, if◌then◌else◌}
 use Rattle.std.specs.Option.{option_map}
 use Rattle.std.proofs.lemmas.Bool.Decides.{nat_tests}
 use Rattle.std.proofs.lemmas.Option.{same_Some, none-some}
@@ -11,6 +11,8 @@ use Rattle.un_journal.specs.declared.actions.Answer.{Answer}
 use Rattle.un_journal.specs.History.{History, current, left_of, arrived, posts, recalls, flights, posted, first}
 use Rattle.un_journal.specs.Lookup.{rx_home, rx_back}
 use Rattle.un_journal.specs.LaneSteps.{Writes, Answers, bare, rx_done, open_first, deliver_next, post}
+use Rattle.un_journal.specs.Sound.{IsSound, IsFirstArrived, IsNextNumber}
+use Rattle.un_journal.proofs.ForLane.{arrived_from, next_number_from}
 use Rattle.un_check.specs.Says.{Says}
 use Rattle.un_check.specs.declared.reading.Reading.{Reading}
 use Rattle.un_check.specs.Receiving.{Receiving, IsOf, IsLeft, ReadingIs, serial_in}
@@ -86,3 +88,17 @@ post_at_goes lane r line false is e = subst (λ l. GoesOn l r) (same_Some (Poste
 
 pub post_goes : (lane : Lane) (r : Receiving) (line : Line) → post_line lane r ≡ Some line → GoesOn line r
 post_goes lane r line e = post_at_goes lane r line (r.home == 0) refl e
+
+-- FOLLOWING
+
+pub opened_follows : (params : Params) (lane l : Lane) (k : ℕ) (g : History) (r : Receiving) → IsSound g → IsOf params lane g r → GoesOn (Opened l k) r → IsFirstArrived g k
+opened_follows params lane l k g r sound w goes = arrived_from g k sound (w.reading_is ∙ ap serial_in goes.1) (ap first w.landed_is ∙ goes.0)
+
+given_follows : (g : History) (n : ℕ) (o : Option Reading) → IsSound g → current g ≡ serial_in o → ReadingIs (IsLeft (left_of g)) o → next_in o ≡ Some n → IsNextNumber g n
+given_follows g n None sound now left goes = absurd (none-some n goes)
+given_follows g n (Some o) sound now left goes =
+    next_number_from g o.serial n sound now
+    (ap first (left.numbers ∙ row_some o.next (o.to - o.next) (let many : o.next < o.to = left.some in omega arith)) ∙ goes)
+
+pub gave_follows : (params : Params) (lane l : Lane) (n : ℕ) (g : History) (r : Receiving) → IsSound g → IsOf params lane g r → GoesOn (Gave l n) r → IsNextNumber g n
+gave_follows params lane l n g r sound w goes = given_follows g n r.reading sound w.reading_is w.left_is goes

@@ -6,10 +6,10 @@ use Rattle.un_frame.specs.declared.params.Lane.{Lane}
 use Rattle.un_frame.specs.declared.params.Params.{Params}
 use Rattle.un_frame.specs.Lanes.{rx_size}
 use Rattle.un_journal.specs.declared.lines.Line.{Line}
-use Rattle.un_journal.specs.declared.lines.Line.TheVariants.{Gave}
+use Rattle.un_journal.specs.declared.lines.Line.TheVariants.{Opened, Gave}
 use Rattle.un_journal.specs.History.{History, posted}
 use Rattle.un_journal.specs.Lookup.{rx_home}
-use Rattle.un_journal.specs.Sound.{IsSound}
+use Rattle.un_journal.specs.Sound.{IsSound, IsFirstArrived, IsNextNumber}
 use Rattle.un_journal.specs.LaneSteps.{bare, rx_done, deliver_next, post}
 use Rattle.un_check.specs.Says.{Says}
 use Rattle.un_check.specs.Receiving.{Receiving, IsOf, InPool, nothing_received}
@@ -26,6 +26,15 @@ abbrev pub LineIsKept : Type 0
 LineIsKept = (params : Params) (lane : Lane) (g : History) (r : Receiving) (is_out : Bool) (s : ℕ × ℕ) (line : Line) (bytes : List ℕ)
     → IsSound ((line, bytes) ∷ g) → IsTold is_out s line g → GoesOn line r → IsOf params lane g r
     → IsOf params lane ((line, bytes) ∷ g) (after is_out s line r)
+
+-- an opened or a gave line that is this end's next may follow the lane's lines
+abbrev pub OpenedFollows : Type 0
+OpenedFollows = (params : Params) (lane l : Lane) (k : ℕ) (g : History) (r : Receiving)
+    → IsSound g → IsOf params lane g r → GoesOn (Opened l k) r → IsFirstArrived g k
+
+abbrev pub GaveFollows : Type 0
+GaveFollows = (params : Params) (lane l : Lane) (n : ℕ) (g : History) (r : Receiving)
+    → IsSound g → IsOf params lane g r → GoesOn (Gave l n) r → IsNextNumber g n
 
 -- no request is lost or doubled by a line: at first all are at home, and no more than all are ever posted or at home
 abbrev pub PoolIsKept : Type 0

@@ -3,9 +3,11 @@
 ghost use Rattle.un_check.specs.ReceivingLaws.{
   DeliveryGoesOn,
   DeliveryIsSaid,
+  GaveFollows,
   HomeIsSaid,
   LineIsKept,
   NothingIsKept,
+  OpenedFollows,
   PoolIsBound,
   PoolIsFull,
   PoolIsKept,
@@ -20,6 +22,12 @@ ghost use Rattle.un_check.specs.ReceivingLaws.{
 pub fn receiving_is_kept()
     ensures nothing { NothingIsKept }
     ensures line { LineIsKept }
+{}
+
+/// An `Opened` or a `Gave` line that is this end's next may follow the lane's lines.
+pub fn receiving_follows()
+    ensures opened { OpenedFollows }
+    ensures gave { GaveFollows }
 {}
 
 /// Each receive request stays in one place: posted, at home, in flight, landed or read. So no more than all of them are posted or at

@@ -7,7 +7,7 @@ mod receiving;
 
 pub use laws_receiving::{
     delivery_is_said, post_is_said, receive_counts_are_said, receive_pool_is_kept,
-    receiving_is_kept, rx_done_is_said,
+    receiving_follows, receiving_is_kept, rx_done_is_said,
 };
 pub use reading::Reading;
 pub use receiving::Receiving;
