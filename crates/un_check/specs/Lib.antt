@@ -1,0 +1,6 @@
+pub mod Says
+pub mod Transfers
+pub mod TransferLines
+pub mod Receiving
+pub mod ReceivingLines
+pub mod ReceivingLaws
