@@ -1,4 +1,15 @@
-//! Whether a trace is one that a link may write.
+//! What a checker of a trace keeps of a lane, by the lane's lines alone.
+//!
+//! ```text
+//! let mut end = Receiving::make(alloc, 8);
+//! end.post_line(lane);                                // Some(Posted): a request is at home
+//! end.add(false, (0, 0), line)?;                      // of each line of the lane, where it is one that may follow
+//! end.rx_done_line(lane);                             // Some(Opened) of the first transfer that landed, once none is read
+//! end.deliver_number();                               // the transfer that is read, and its next datagram
+//! ```
+//!
+//! `Receiving` is a lane's receiving end. The other calls do nothing: each is a law, that what is kept is what the lane's lines say,
+//! and that a line which is said is the one that the step writes.
 #![tactic(auto)]
 
 mod laws_receiving;

@@ -5,6 +5,8 @@
 #[cfg(test)]
 mod agg_tests;
 #[cfg(test)]
+mod check_tests;
+#[cfg(test)]
 mod gadget_tests;
 #[cfg(test)]
 mod host_tests;
