@@ -1,5 +1,6 @@
 pub mod Says
 pub mod Transfers
 pub mod TransferLines
+pub mod TransferLaws
 pub mod Receiving
 pub mod ReceivingLines

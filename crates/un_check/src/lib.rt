@@ -1,2 +1,8 @@
 //! Whether a trace is one that a link may write.
 #![tactic(auto)]
+
+mod laws;
+mod transfers;
+
+pub use laws::lines_keep_transfers;
+pub use transfers::Transfer;

@@ -1,0 +1,4 @@
+mod TransferTests
+mod TransferLists
+mod TransferCounts
+mod TransferKept
