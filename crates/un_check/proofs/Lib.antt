@@ -2,3 +2,5 @@ mod TransferTests
 mod TransferLists
 mod TransferCounts
 mod TransferKept
+mod Rows
+mod TransferLookups

@@ -1,9 +1,29 @@
 //! The laws of what a checker keeps of a lane's transfers, each the contract of a call that does nothing.
 
-ghost use Rattle.un_check.specs.TransferLaws.{LinesKeepTransfers, NoLineMakesNone};
+ghost use Rattle.un_check.specs.TransferLaws.{
+  DeferredIsKept,
+  FlyingIsKept,
+  LinesKeepTransfers,
+  NoLineMakesNone,
+  QueuedIsKept,
+  ReturnedIsKept,
+  UnmarkedIsKept,
+  WaitingIsKept,
+};
 
 /// What is kept of a lane's transfers is theirs: at first, and after each line that goes on from it.
 pub fn lines_keep_transfers()
     ensures none { NoLineMakesNone }
     ensures kept { LinesKeepTransfers }
+{}
+
+/// It tells which transfers the lane's lines say to fly, to wait, to be queued or deferred and to be what a stop marks, and whether
+/// the next transmit request may come home.
+pub fn transfers_are_looked_up()
+    ensures flying { FlyingIsKept }
+    ensures waiting { WaitingIsKept }
+    ensures queued { QueuedIsKept }
+    ensures deferred { DeferredIsKept }
+    ensures unmarked { UnmarkedIsKept }
+    ensures returned { ReturnedIsKept }
 {}
