@@ -4,3 +4,4 @@ mod TransferCounts
 mod TransferKept
 mod Rows
 mod TransferLookups
+mod TransferSteps

@@ -1,12 +1,17 @@
 //! The laws of what a checker keeps of a lane's transfers, each the contract of a call that does nothing.
 
 ghost use Rattle.un_check.specs.TransferLaws.{
+  ClearIsSaid,
   DeferredIsKept,
   FlyingIsKept,
+  LandIsSaid,
   LinesKeepTransfers,
   NoLineMakesNone,
   QueuedIsKept,
   ReturnedIsKept,
+  TakeIsSaid,
+  TxDoneIsSaid,
+  UnlinkIsSaid,
   UnmarkedIsKept,
   WaitingIsKept,
 };
@@ -26,4 +31,13 @@ pub fn transfers_are_looked_up()
     ensures deferred { DeferredIsKept }
     ensures unmarked { UnmarkedIsKept }
     ensures returned { ReturnedIsKept }
+{}
+
+/// It tells what each step on the lane's transfers writes: that line alone, or nothing.
+pub fn transfer_steps_are_said()
+    ensures take { TakeIsSaid }
+    ensures land { LandIsSaid }
+    ensures tx_done { TxDoneIsSaid }
+    ensures unlink { UnlinkIsSaid }
+    ensures clear { ClearIsSaid }
 {}

@@ -4,5 +4,5 @@
 mod laws;
 mod transfers;
 
-pub use laws::{lines_keep_transfers, transfers_are_looked_up};
+pub use laws::{lines_keep_transfers, transfer_steps_are_said, transfers_are_looked_up};
 pub use transfers::Transfer;
