@@ -1,6 +1,7 @@
 -- Numbers that pass a test exactly where they stand in one span: they are a row.
-use Rattle.std.proofs.Common.{◌≡◌, ℕ, zero, suc, ◌+◌, ◌<◌, ◌≤◌, Bool, true, false, [], ◌∷◌, ◌++◌, refl, ap, subst, sym, arith, inl, inr, if◌then◌else◌, append-nil, nat_lt, Some, None}
+use Rattle.std.proofs.Common.{◌≡◌, ◌∙◌, ℕ, zero, suc, ◌+◌, ◌<◌, ◌≤◌, Bool, true, false, [], ◌∷◌, ◌++◌, refl, ap, subst, sym, arith, inl, inr, if◌then◌else◌, append-nil, nat_lt, Some, None}
 use Rattle.std.proofs.lemmas.Bool.{cases_lt, lt-ltb}
+use Rattle.un_journal.proofs.ForLane.{those_same}
 use Rattle.un_journal.specs.History.{those, row_from, first}
 
 -- a test passes the m numbers from a on, of those below n, and no others
@@ -17,9 +18,12 @@ row_last a (suc m) =
     let same : a + 1 + m ≡ a + suc m = omega arith in
     ap (λ xs. a ∷ xs) (subst (λ i. row_from (a + 1) (suc m) ≡ row_from (a + 1) m ++ i ∷ []) same rest)
 
+none_pass : (n : ℕ) → those (λ k. false) n ≡ []
+none_pass zero = refl
+none_pass (suc n) = rw (none_pass n) refl
+
 pub none_those : (p : ℕ → Bool) (n : ℕ) → ((k : ℕ) → k < n → p k ≡ false) → those p n ≡ []
-none_those p zero none = refl
-none_those p (suc n) none = rw (none_those p n (λ k h. none k (omega arith)), none n (omega arith)) refl
+none_those p n none = those_same p (λ k. false) n none ∙ none_pass n
 
 pub those_row : (p : ℕ → Bool) (n a m : ℕ) → IsRow p n a m → those p n ≡ row_from a m
 those_row p n a zero r = none_those p n (λ k h. elim (cases_lt k a) [ inl low ↦ r.before k low h | inr high ↦ r.after k (omega arith) h ])
