@@ -6,3 +6,10 @@ mod ReceivingGave
 mod ReceivingKept
 mod ReceivingSteps
 mod ReceivingPool
+mod TransferTests
+mod TransferLists
+mod TransferCounts
+mod TransferKept
+mod Rows
+mod TransferLookups
+mod TransferSteps

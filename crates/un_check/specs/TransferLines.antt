@@ -1,5 +1,6 @@
 -- What one more line does to a lane's transfers, and what each step would write, by what is kept of them.
-use Rattle.std.specs.Prelude.{◌≡◌, ℕ, ◌+◌, ◌<◌, Bool, true, false, ◌&&◌, ◌==◌, nat_lt, nat_le, max, List, [], ◌∷◌, ◌++◌, length, take, drop, Option, Some, None, slice_get, if◌then◌else◌}
+use Rattle.std.specs.Prelude.{◌≡◌, ℕ, zero, suc, ◌+◌, ◌-◌, ◌<◌, Bool, true, false, ◌&&◌, ◌==◌, nat_lt, nat_le, max, List, [], ◌∷◌, ◌++◌, length, Option, Some, None, slice_get, if◌then◌else◌}
+use Rattle.un_facts.specs.Numbers.{one_if}
 use Rattle.un_frame.specs.declared.params.Lane.{Lane}
 use Rattle.un_frame.specs.declared.kinds.FaultKind.{FaultKind}
 use Rattle.un_frame.specs.declared.kinds.FaultKind.TheVariants.{Halt}
@@ -7,7 +8,9 @@ use Rattle.un_frame.specs.declared.kinds.Planned.{Planned}
 use Rattle.un_frame.specs.declared.kinds.Planned.TheVariants as plans
 use Rattle.un_journal.specs.declared.lines.Line.{Line}
 use Rattle.un_journal.specs.declared.lines.Line.TheVariants.{Made, Flying, Landed, Failed, Retried, Marked, Cut, TxHome, Cleared, Settled}
-use Rattle.un_check.specs.Transfers.{Transfer, Transfers, mark_in}
+use Rattle.un_journal.specs.History.{row_from}
+use Rattle.un_check.specs.declared.transfers.Transfer.{Transfer}
+use Rattle.un_check.specs.Transfers.{Transfers, mark_in}
 
 -- the first transfer that isn't over and isn't marked, as a serial; it is their number where none is left
 abbrev pub first_unmarked : Transfers → ℕ
@@ -17,15 +20,28 @@ first_unmarked t = max t.over t.marked
 abbrev pub next_mark : Transfers → Option ℕ
 next_mark t = mark_in (slice_get t.all t.over)
 
+-- how many are over or fly: the serial of the first that waits
+abbrev pub first_waiting : Transfers → ℕ
+first_waiting t = t.over + one_if t.is_out
+
+-- those from a serial on
+abbrev pub serials_from : Transfers → ℕ → List ℕ
+serials_from t k = row_from k (length t.all - k)
+
+-- the transfer that flies
+abbrev pub flying_serials : Transfers → List ℕ
+flying_serials t = if t.is_out then t.over ∷ [] else []
+
 -- what a line needs to be one of these transfers' next: what is over goes on in turn
 abbrev pub GoesOn : Line → Transfers → Type 0
 GoesOn (Made l k a b) t = k ≡ length t.all
 GoesOn (Flying l k) t = (k ≡ t.over) × (t.is_out ≡ false) × (t.over < length t.all)
 GoesOn (Landed l k) t = (k ≡ t.over) × (t.is_out ≡ true)
 GoesOn (Failed l k kind) t = (k ≡ t.over) × (t.is_out ≡ true)
-GoesOn (Retried l k n) t = (k ≡ t.over) × (t.is_out ≡ true)
+GoesOn (Retried l k n) t = (k ≡ t.over) × (t.is_out ≡ true) × (t.tries < 3)
 GoesOn (Cut l k c) t = (k ≡ t.over) × (t.over < length t.all)
 GoesOn (Marked l k c) t = (k ≡ first_unmarked t) × (first_unmarked t < length t.all)
+GoesOn (TxHome l k) t = (k ≡ t.home) × (t.home < t.over)
 GoesOn line t = Unit {0}
 
 -- the transfer that was next is over
@@ -39,13 +55,11 @@ halts kind before = before
 abbrev pub with_mark : ℕ → Transfer → Transfer
 with_mark cause x = record x { mark = Some cause }
 
-abbrev pub marked_first : ℕ → List Transfer → List Transfer
-marked_first cause [] = []
-marked_first cause (x ∷ xs) = with_mark cause x ∷ xs
-
 -- the transfer of a serial is marked
 abbrev pub marked_at : ℕ → ℕ → List Transfer → List Transfer
-marked_at k cause all = take k all ++ marked_first cause (drop k all)
+marked_at k cause [] = []
+marked_at zero cause (x ∷ xs) = with_mark cause x ∷ xs
+marked_at (suc k) cause (x ∷ xs) = x ∷ marked_at k cause xs
 
 -- the transfers after a line
 abbrev pub after : Line → Transfers → Transfers
@@ -99,7 +113,12 @@ land_line lane plan t = if t.is_out then lands lane plan t (next_mark t) else No
 abbrev pub tx_done_line : Lane → Transfers → Option Line
 tx_done_line lane t = if nat_lt t.home t.over then Some (TxHome lane t.home) else None
 
--- the first transfer that a stop marks: where the lane defers, the one that flies alone
+-- the transfers that a stop marks: where the lane defers, the one that flies alone
+abbrev pub unmarked_serials : Bool → Transfers → List ℕ
+unmarked_serials true t = if t.is_out && nat_le t.marked t.over then t.over ∷ [] else []
+unmarked_serials false t = serials_from t (first_unmarked t)
+
+-- the first of them
 abbrev pub unmarked_serial : Bool → Transfers → Option ℕ
 unmarked_serial true t = if t.is_out && nat_le t.marked t.over then Some t.over else None
 unmarked_serial false t = if nat_lt (first_unmarked t) (length t.all) then Some (first_unmarked t) else None

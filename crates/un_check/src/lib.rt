@@ -8,17 +8,21 @@
 //! end.deliver_number();                               // the transfer that is read, and its next datagram
 //! ```
 //!
-//! `Receiving` is a lane's receiving end. The other calls do nothing: each is a law, that what is kept is what the lane's lines say,
-//! and that a line which is said is the one that the step writes.
+//! `Receiving` is a lane's receiving end, and `Transfer` a transfer of the lane as it is kept. The other calls do nothing: each is a
+//! law, that what is kept is what the lane's lines say, and that a line which is said is the one that the step writes.
 #![tactic(auto)]
 
 mod laws_receiving;
+mod laws_transfers;
 mod reading;
 mod receiving;
+mod transfers;
 
 pub use laws_receiving::{
     delivery_is_said, post_is_said, receive_counts_are_said, receive_pool_is_kept,
     receiving_follows, receiving_is_kept, rx_done_is_said,
 };
+pub use laws_transfers::{lines_keep_transfers, transfer_steps_are_said, transfers_are_looked_up};
 pub use reading::Reading;
 pub use receiving::Receiving;
+pub use transfers::Transfer;
