@@ -23,8 +23,8 @@ class WireClass:
 
     name: str
     interfaces: tuple[tuple[int, ...], ...]
-    """The class, the subclass and, where it matters, the protocol of its control interface (CDC 1.2; EEM has this interface alone; RNDIS: those
-    that Linux's rndis_host and f_rndis know)."""
+    """The class, the subclass and, where it matters, the protocol of its control interface (CDC 1.2; EEM has this interface alone; RNDIS: two
+    triples that its devices use, of no standard that was read for it)."""
     signature: bytes
     """How each transfer begins, where that is told."""
     is_whole: Callable[[bytes], "bool | None"]
