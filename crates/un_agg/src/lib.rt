@@ -19,6 +19,7 @@ mod builder;
 mod gadget;
 mod host;
 
+pub use block::OpenBlock;
 pub use builder::Builder;
 pub use gadget::GadWrap;
 pub use host::HostAgg;

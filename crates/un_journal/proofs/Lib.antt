@@ -1,6 +1,7 @@
 pub mod Theorems
 pub mod ForLane
 pub mod ForLink
+pub mod ForReader
 mod Lists
 mod Lanes
 mod Steps

@@ -170,3 +170,31 @@ none_more script g h rest none (steps i j lines act f on) q = absurd (none act l
 pub goes_no_further : (script : Script) (g rest : History) → IsDone script g → Legal script (g ++ rest) → rest ≡ []
 goes_no_further script g rest d legal =
     none_more script g (g ++ rest) rest d.none_fits (moment script [] g (g ++ rest) rest (legal_goes script g d.is_legal) (legal_goes script (g ++ rest) legal) refl) refl
+
+-- the step that a legal history goes on with: its lines begin what follows
+pub record NextStep (script : Script) (g : History) (e : Entry) (rest : History) : Type 0 where
+  pub act : Act
+  pub lines : History
+  pub fits : Fits script g act (e ∷ lines)
+  pub more : History
+  pub goes : rest ≡ lines ++ more
+
+next_from : (script : Script) (g h rest : History) (e : Entry) → Goes script g h → h ≡ g ++ (e ∷ rest) → NextStep script g e rest
+next_from script g h rest e (stays i) q = absurd (let none : [] ≡ e ∷ rest = cancel i [] (e ∷ rest) (append-nil i ∙ q) in cc)
+next_from script g h rest e (steps i j [] act f on) q = absurd (fits_some script i [] act f refl)
+next_from script g h rest e (steps i j (e' ∷ xs) act f on) q =
+    record { act = act; lines = xs; fits = subst (λ x. Fits script i act (x ∷ xs)) first f; more = w.more; goes = cc }
+  where
+    w : Extends (i ++ (e' ∷ xs)) j
+    w = goes_extends script (i ++ (e' ∷ xs)) j on
+
+    tails : e' ∷ (xs ++ w.more) ≡ e ∷ rest
+    tails = cancel i _ _ (sym (append_assoc i (e' ∷ xs) w.more) ∙ (sym w.is_more ∙ q))
+
+    first : e' ≡ e
+    first = head_same e' e _ _ tails
+
+-- a legal history that goes on from a legal one does so by a step
+pub next_step : (script : Script) (g rest : History) (e : Entry) → Legal script g → Legal script (g ++ e ∷ rest) → NextStep script g e rest
+next_step script g rest e legal more =
+    next_from script g (g ++ e ∷ rest) rest e (moment script [] g (g ++ e ∷ rest) (e ∷ rest) (legal_goes script g legal) (legal_goes script (g ++ e ∷ rest) more) refl) refl
