@@ -122,6 +122,9 @@ cancel (x ∷ m) xs ys e = cancel m xs ys (cc)
 head_same : (e e' : Entry) (xs ys : History) → e ∷ xs ≡ e' ∷ ys → e ≡ e'
 head_same e e' xs ys q = cc
 
+tail_same : (e e' : Entry) (xs ys : History) → e ∷ xs ≡ e' ∷ ys → xs ≡ ys
+tail_same e e' xs ys q = cc
+
 no_loop : (m rest more : History) (e : Entry) (xs : History) → m ≡ ((m ++ (e ∷ xs)) ++ more) ++ rest → ⊥
 no_loop m rest more e xs q =
     let l : length m ≡ length (((m ++ (e ∷ xs)) ++ more) ++ rest) = ap length q in
@@ -183,7 +186,7 @@ next_from : (script : Script) (g h rest : History) (e : Entry) → Goes script g
 next_from script g h rest e (stays i) q = absurd (let none : [] ≡ e ∷ rest = cancel i [] (e ∷ rest) (append-nil i ∙ q) in cc)
 next_from script g h rest e (steps i j [] act f on) q = absurd (fits_some script i [] act f refl)
 next_from script g h rest e (steps i j (e' ∷ xs) act f on) q =
-    record { act = act; lines = xs; fits = subst (λ x. Fits script i act (x ∷ xs)) first f; more = w.more; goes = cc }
+    record { act = act; lines = xs; fits = subst (λ x. Fits script i act (x ∷ xs)) first f; more = w.more; goes = sym (tail_same e' e _ _ tails) }
   where
     w : Extends (i ++ (e' ∷ xs)) j
     w = goes_extends script (i ++ (e' ∷ xs)) j on
