@@ -1,4 +1,7 @@
 pub mod Says
+pub mod Building
+pub mod BuildingLines
+pub mod BuildingLaws
 pub mod Transfers
 pub mod TransferLines
 pub mod TransferLaws
