@@ -1,4 +1,8 @@
 pub mod Says
+pub mod Moments
+pub mod Half
+pub mod HalfLines
+pub mod HalfLaws
 pub mod Building
 pub mod BuildingLines
 pub mod BuildingLaws

@@ -16,6 +16,7 @@ mod laws_receiving;
 mod laws_transfers;
 mod reading;
 mod receiving;
+mod source;
 mod transfers;
 
 pub use laws_receiving::{
@@ -25,4 +26,5 @@ pub use laws_receiving::{
 pub use laws_transfers::{lines_keep_transfers, transfer_steps_are_said, transfers_are_looked_up};
 pub use reading::Reading;
 pub use receiving::Receiving;
+pub use source::Source;
 pub use transfers::Transfer;
