@@ -3,6 +3,7 @@ pub mod Moments
 pub mod Half
 pub mod HalfLines
 pub mod HalfLaws
+pub mod Judge
 pub mod Building
 pub mod BuildingLines
 pub mod BuildingLaws
