@@ -27,7 +27,7 @@ use Rattle.un_link.specs.Keeps.{Keeps}
 use Rattle.un_link.specs.Link.{Link, Holds, Steps, lane_flights}
 use Rattle.un_link.specs.Orders.{KeepBoth, Obeys}
 use Rattle.un_link.proofs.Flying.{flight_kept}
-use Rattle.un_link.proofs.Frames.{read_same}
+use Rattle.un_script.proofs.CursorLemmas.{read_same}
 use Rattle.un_link.proofs.Holding.{act_room, act_logged}
 use Rattle.un_link.proofs.Offers.{pushed}
 use Rattle.un_link.proofs.Unchanged.{always}

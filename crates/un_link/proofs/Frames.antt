@@ -15,8 +15,9 @@ use Rattle.un_journal.specs.LaneSteps.{Outcome, Writes, Answers, lines_in}
 use Rattle.un_journal.specs.Step.{Work, work}
 use Rattle.un_journal.specs.Fits.{Works, Fits, takes, refuses, waits_once, closes, begins_flight, cuts_queued, lands, tries_again, fails, cuts_flight, comes_home, opens, gives, posts_one, marks, recalls_one, clears, settles}
 use Rattle.un_journal.proofs.Theorems.{outcome_fits}
-use Rattle.un_link.specs.declared.cursors.Cursors.{Cursors}
-use Rattle.un_link.specs.Keeps.{AreRead}
+use Rattle.un_script.specs.declared.cursors.Cursors.{Cursors}
+use Rattle.un_script.specs.Cursors.{AreRead}
+use Rattle.un_script.proofs.CursorLemmas.{read_same}
 
 -- a work of one lane that offers nothing; one that builds nothing either
 abbrev pub is_calm : Work → Bool
@@ -65,9 +66,6 @@ calm_same script h w lane q p = go (work script h w) refl
     go : (o : Outcome) → work script h w ≡ o → IsSame script w lane (past lane h) (past lane (h ++ lines_in o))
     go (Writes lines) e = calm_fits script h lines w lane (outcome_fits script h lines (Works w) e) q p
     go (Answers answer) e = rw append-nil (record { frames = refl; feeds = λ s. refl; covers = λ c. refl })
-
-pub read_same : (c : Cursors) (g g' : History) → AreRead c g → ((s : ℕ) → consumed g' s ≡ consumed g s) → AreRead c g'
-read_same c g g' r same = record { first = r.first ∙ sym (same 0); second = r.second ∙ sym (same 1); third = r.third ∙ sym (same 2); fourth = r.fourth ∙ sym (same 3) }
 
 -- and the feeds are read as far as they were
 pub calm_read : (script : Script) (w : Work) (lane : Lane) (h h' : History) (c : Cursors) → lane_of w ≡ Some lane → is_calm w ≡ true → h' ≡ h ++ lines_in (work script h w) → AreRead c (past lane h) → AreRead c (past lane h')

@@ -15,7 +15,8 @@ use Rattle.un_lane.specs.Way.{Way}
 use Rattle.un_lane.specs.Stands.{Stands}
 use Rattle.un_lane.specs.Fresh.{AreFresh}
 use Rattle.un_script.specs.Ready.{IsReady}
-use Rattle.un_link.specs.declared.cursors.Cursors.{Cursors}
+use Rattle.un_script.specs.declared.cursors.Cursors.{Cursors}
+use Rattle.un_script.specs.Cursors.{nothing_read}
 use Rattle.un_link.specs.declared.shared.Shared.{Shared}
 use Rattle.un_link.specs.Keeps.{Keeps}
 use Rattle.un_link.specs.Link.{Holds}
@@ -39,7 +40,7 @@ pub made_holds : (script : Script) (out inward : Way) (shared : Shared) (read re
     → AreFresh Outward a b n m → AreFresh Inward c d i j → a.params ≡ script.params → c.params ≡ script.params
     → Stands out [] → out.lane ≡ Outward → out.tx ≡ a → Stands inward [] → inward.lane ≡ Inward → inward.tx ≡ c
     → shared ≡ record { script = script; journal = record { history = []; spare_lines = line_bound script; spare_bytes = byte_bound script }; phase = Up; next_control = 0 }
-    → read ≡ record { first = 0; second = 0; third = 0; fourth = 0 } → read' ≡ record { first = 0; second = 0; third = 0; fourth = 0 }
+    → read ≡ nothing_read → read' ≡ nothing_read
     → Holds (record { script = shared.script; log = shared.journal; out = out; inward = inward; out_read = read; in_read = read'; phase = shared.phase; next_control = shared.next_control })
 made_holds script out inward shared read read' a c b d n m i j ready agree fo fi po pi so lo to si li ti e ro ri =
     rw (e, ro, ri)

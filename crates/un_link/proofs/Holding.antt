@@ -24,7 +24,8 @@ use Rattle.un_lane.specs.Stands.{Stands}
 use Rattle.un_lane.specs.Answered.{UnlessTaken}
 use Rattle.un_link.specs.declared.half.Half.{Half}
 use Rattle.un_link.specs.declared.shared.Shared.{Shared}
-use Rattle.un_link.specs.Keeps.{AreRead, Keeps}
+use Rattle.un_script.specs.Cursors.{AreRead}
+use Rattle.un_link.specs.Keeps.{Keeps}
 use Rattle.un_link.specs.Halves.{HalfKeeps, Ready, Goes, Does, acts_on, work_of}
 use Rattle.un_link.specs.Flights.{LaneTrip}
 use Rattle.un_link.specs.Link.{Link, IsLogged, Holds, Steps, lane_flights}

@@ -20,7 +20,8 @@ use Rattle.un_lane.specs.Way.{Way, HasRoom, Adds}
 use Rattle.un_lane.specs.Phases.{Agrees}
 use Rattle.un_lane.specs.Controls.{settled}
 use Rattle.un_lane.specs.Stands.{Stands}
-use Rattle.un_link.specs.Keeps.{AreRead, Keeps}
+use Rattle.un_script.specs.Cursors.{AreRead}
+use Rattle.un_link.specs.Keeps.{Keeps}
 use Rattle.un_link.specs.Link.{Link, Holds, Steps, lane_flights}
 use Rattle.un_link.proofs.Holding.{act_room, act_logged}
 use Rattle.un_link.proofs.Offers.{pushed}

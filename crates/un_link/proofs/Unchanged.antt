@@ -6,7 +6,7 @@ use Rattle.un_journal.specs.declared.got.Got.TheVariants.{Part, Cut, Not}
 use Rattle.un_journal.specs.Log.{Log}
 use Rattle.un_lane.specs.Way.{Way}
 use Rattle.un_lane.specs.Answered.{UnlessDid, UnlessTaken, IsUnchanged}
-use Rattle.un_link.specs.declared.cursors.Cursors.{Cursors}
+use Rattle.un_script.specs.declared.cursors.Cursors.{Cursors}
 use Rattle.un_link.specs.declared.half.Half.{Half}
 use Rattle.un_link.specs.declared.shared.Shared.{Shared}
 use Rattle.un_link.specs.Flights.{LaneTrip}

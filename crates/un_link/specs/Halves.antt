@@ -12,7 +12,8 @@ use Rattle.un_lane.specs.Way.{HasRoom, Adds}
 use Rattle.un_lane.specs.Answered.{UnlessDid}
 use Rattle.un_link.specs.declared.half.Half.{Half}
 use Rattle.un_link.specs.declared.shared.Shared.{Shared}
-use Rattle.un_link.specs.Keeps.{AreRead, Keeps}
+use Rattle.un_script.specs.Cursors.{AreRead}
+use Rattle.un_link.specs.Keeps.{Keeps}
 
 -- the half keeps what the lane's lines say, and the shared phase and number of controls are the history's
 pub record HalfKeeps {T R : Type 0} (shared : Shared) (half : Half T R) : Type 0 where

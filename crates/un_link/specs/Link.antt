@@ -17,8 +17,9 @@ use Rattle.un_journal.specs.Drain.{line_bound}
 use Rattle.un_journal.specs.Fits.{Legal}
 use Rattle.un_lane.specs.Way.{Way}
 use Rattle.un_lane.specs.Answered.{UnlessDid}
-use Rattle.un_link.specs.declared.cursors.Cursors.{Cursors}
-use Rattle.un_link.specs.Keeps.{AreRead, Keeps}
+use Rattle.un_script.specs.declared.cursors.Cursors.{Cursors}
+use Rattle.un_script.specs.Cursors.{AreRead}
+use Rattle.un_link.specs.Keeps.{Keeps}
 
 -- a script, its history with the room that is left, both lanes' paths, how far the feeds are read, the phase, and how many controls are done
 pub record Link : Type 0 where

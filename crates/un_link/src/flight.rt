@@ -6,11 +6,12 @@ ghost use Rattle.un_link.specs.Flights.{BringsBack, TakesOut, flight_of, path_fl
 ghost use Rattle.un_link.specs.Halves.{Ready};
 
 use crate::half::Half;
-use crate::shared::{Shared, sleeps};
+use crate::shared::Shared;
 use std::marker::Model;
 use un_endpoint::{Carried, Flight, RxEnd, TxEnd};
 use un_frame::Lane;
 use un_journal::Got;
+use un_script::sleeps;
 
 /// A flight with its lane, and the packet size (in bytes, at least 8) in which it is copied. It is a moved value that can't be dropped: it is carried exactly once.
 pub struct LinkFlight {

@@ -5,14 +5,15 @@ ghost use Rattle.un_journal.specs.Step.{ClearHalt, Refill, Unlink};
 ghost use Rattle.un_lane.specs.Fresh.{AreFresh};
 ghost use Rattle.un_lane.specs.Stands.{Stands};
 ghost use Rattle.un_link.specs.Halves.{Does, Ready, acts_on, work_of};
+ghost use Rattle.un_script.specs.Cursors.{nothing_read};
 
-use crate::cursors::Cursors;
-use crate::shared::{Shared, sleeps};
+use crate::shared::Shared;
 use std::alloc::{AllocError, Global};
 use un_endpoint::{RxEnd, TxEnd};
 use un_frame::{Lane, Phase};
 use un_journal::{Action, Answer};
 use un_lane::Path;
+use un_script::{Cursors, sleeps};
 
 /// A lane's half of a link: its path, and how far its feeds are read. Each call that writes does so into what both lanes share.
 #[derive(Drop)]
@@ -32,7 +33,7 @@ impl<T: TxEnd + Drop, R: RxEnd + Drop> Half<T, R> {
         rx_count: u32,
     ) -> Result<Half<T, R>, AllocError>
         requires { AreFresh lane (T.transmitter tx) (R.receiver rx) tx_count rx_count }
-        ensures { IfOk result (λ h. Stands h.path [] × (h.path.lane ≡ lane) × (h.path.tx ≡ T.transmitter tx) × (h.read ≡ record { first = 0; second = 0; third = 0; fourth = 0 })) }
+        ensures { IfOk result (λ h. Stands h.path [] × (h.path.lane ≡ lane) × (h.path.tx ≡ T.transmitter tx) × (h.read ≡ nothing_read)) }
     {
         let path = Path::make(alloc, lane, tx, rx, tx_count, rx_count)?;
         Ok(Half {

@@ -14,7 +14,6 @@
 //! `homes`, `census`, `quiet` and `finished` for one who looks, which changes nothing.
 #![tactic(auto)]
 
-mod cursors;
 mod ends;
 mod flight;
 mod half;

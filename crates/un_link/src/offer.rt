@@ -4,14 +4,14 @@ ghost use Rattle.std.specs.Prelude.{◌≡◌, not, is_some, slice_get};
 ghost use Rattle.un_journal.specs.Script.{frames_of};
 ghost use Rattle.un_journal.specs.Step.{Offer, is_still, offers_still, work};
 ghost use Rattle.un_link.specs.Halves.{Does, HalfKeeps, Ready};
-ghost use Rattle.un_link.specs.Keeps.{cursor_at};
+ghost use Rattle.un_script.specs.Cursors.{cursor_at};
 
 use crate::half::Half;
-use crate::shared::{Shared, sleeps, takes_frames};
+use crate::shared::Shared;
 use un_endpoint::{RxEnd, TxEnd};
 use un_frame::{Lane, Verdict, verdict};
 use un_journal::{Answer, Line};
-use un_script::Script;
+use un_script::{Script, sleeps, takes_frames};
 
 impl<T: TxEnd + Drop, R: RxEnd + Drop> Half<T, R> {
     /// Offers the first frame of a sender's feed.

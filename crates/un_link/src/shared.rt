@@ -1,10 +1,9 @@
 //! What both lanes of a link share.
 
-ghost use Rattle.std.specs.Prelude.{◌≡◌, ◌||◌, [], IfOk};
+ghost use Rattle.std.specs.Prelude.{◌≡◌, [], IfOk};
 ghost use Rattle.un_frame.specs.declared.kinds.Phase.TheVariants.{Up};
 ghost use Rattle.un_journal.specs.Bytes.{byte_bound};
 ghost use Rattle.un_journal.specs.Drain.{line_bound};
-ghost use Rattle.un_journal.specs.Lookup.{is_asleep, is_leaving, is_stopping, works};
 
 use crate::room::{bytes_of, lines_of};
 use std::alloc::{AllocError, Global};
@@ -39,25 +38,4 @@ impl Shared {
             next_control: 0,
         })
     }
-}
-
-/// Whether a link sleeps in this phase.
-pub(crate) fn sleeps(phase: Phase) -> bool
-    ensures { result ≡ is_asleep phase }
-{
-    matches!(phase, Phase::Asleep)
-}
-
-/// Whether frames are offered in this phase: up or asleep.
-pub(crate) fn takes_frames(phase: Phase) -> bool
-    ensures { result ≡ works phase }
-{
-    matches!(phase, Phase::Up | Phase::Asleep)
-}
-
-/// Whether a stop or an unplugging isn't settled yet.
-pub(crate) fn stops(phase: Phase) -> bool
-    ensures { result ≡ (is_stopping phase || is_leaving phase) }
-{
-    matches!(phase, Phase::Stopping | Phase::Leaving)
 }

@@ -7,3 +7,4 @@ mod Readiness
 mod LawLemmas
 pub mod Loads
 mod Plans
+pub mod CursorLemmas

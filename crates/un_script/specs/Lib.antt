@@ -9,3 +9,4 @@ pub mod Reasons
 pub mod Examples
 pub mod Law
 pub mod Load
+pub mod Cursors

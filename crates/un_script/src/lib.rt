@@ -10,10 +10,12 @@
 //!
 //! A `Script` is read from its text by `read`, made by `generate`, or begun by `Script::make` and filled by its calls.
 //! `number` reads a number as scripts have it. `phase_after` and `phase_settled` tell which phase of a link a control
-//! and a settled stop leave. Whichever way a script was made, it has what `Script::prove_ready` says;
+//! and a settled stop leave; `sleeps`, `takes_frames` and `stops` tell what a link does in a phase. `Cursors` keep how far
+//! the feeds of a lane are read. Whichever way a script was made, it has what `Script::prove_ready` says;
 //! `read_scripts_are_ready` does nothing, and its contract says the same of each text that is read.
 #![tactic(auto)]
 
+mod cursors;
 mod law;
 mod lines;
 mod load;
@@ -25,10 +27,11 @@ mod state;
 mod table;
 mod why;
 
+pub use cursors::Cursors;
 pub use law::read_scripts_are_ready;
 pub use load::generate;
 pub use numbers::number;
 pub use reader::read;
 pub use script::Script;
-pub use state::{phase_after, phase_settled};
+pub use state::{phase_after, phase_settled, sleeps, stops, takes_frames};
 pub use why::{ScriptError, Why};

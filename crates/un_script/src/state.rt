@@ -1,7 +1,7 @@
-//! Which controls may follow which, and which phases they leave.
+//! Which controls may follow which, which phases they leave, and what a link does in a phase.
 
-ghost use Rattle.std.specs.Prelude.{◌≡◌};
-ghost use Rattle.un_journal.specs.Lookup.{after_order, after_settled};
+ghost use Rattle.std.specs.Prelude.{◌≡◌, ◌||◌};
+ghost use Rattle.un_journal.specs.Lookup.{after_order, after_settled, is_asleep, is_leaving, is_stopping, works};
 ghost use Rattle.un_script.specs.Parts.{state_after};
 
 use un_frame::Phase;
@@ -60,4 +60,25 @@ pub fn phase_settled(phase: Phase) -> Phase
         Phase::Leaving => Phase::Away,
         other => other,
     }
+}
+
+/// Whether a link sleeps in this phase.
+pub fn sleeps(phase: Phase) -> bool
+    ensures { result ≡ is_asleep phase }
+{
+    matches!(phase, Phase::Asleep)
+}
+
+/// Whether frames are offered in this phase: up, or asleep.
+pub fn takes_frames(phase: Phase) -> bool
+    ensures { result ≡ works phase }
+{
+    matches!(phase, Phase::Up | Phase::Asleep)
+}
+
+/// Whether in this phase a stop or an unplugging isn't settled yet.
+pub fn stops(phase: Phase) -> bool
+    ensures { result ≡ (is_stopping phase || is_leaving phase) }
+{
+    matches!(phase, Phase::Stopping | Phase::Leaving)
 }

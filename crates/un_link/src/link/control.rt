@@ -9,12 +9,11 @@ ghost use Rattle.un_link.specs.Link.{Steps};
 
 use crate::link::LinkOver;
 use crate::orders::obey;
-use crate::shared::stops;
 use un_endpoint::{RxEnd, TxEnd};
 use un_frame::Lane;
 use un_journal::{Answer, Control, Due, Line};
 use un_lane::Path;
-use un_script::phase_after;
+use un_script::{phase_after, stops};
 
 /// How many flights of a lane are out: one or none.
 fn flights_out<T: TxEnd + Drop, R: RxEnd + Drop>(path: &Path<T, R>) -> u64

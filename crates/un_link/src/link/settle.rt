@@ -7,11 +7,10 @@ ghost use Rattle.un_journal.specs.Step.{all_home, away, settle, settled_line};
 ghost use Rattle.un_link.specs.Link.{Steps};
 
 use crate::link::LinkOver;
-use crate::shared::stops;
 use un_endpoint::{RxEnd, TxEnd};
 use un_frame::Params;
 use un_journal::{Answer, Line};
-use un_script::phase_settled;
+use un_script::{phase_settled, stops};
 
 /// Whether so many requests are all of their pools.
 fn are_full(params: &Params, tx_out: u32, rx_out: u32, tx_in: u32, rx_in: u32) -> bool

@@ -14,11 +14,10 @@ ghost use Rattle.un_link.specs.Requests.{KeepsRequests};
 
 use crate::homes::Homes;
 use crate::link::LinkOver;
-use crate::shared::stops;
 use un_endpoint::{RxEnd, TxEnd};
 use un_frame::{Lane, Phase};
 use un_journal::{Census, Journal};
-use un_script::Script;
+use un_script::{Script, stops};
 
 impl<A: TxEnd + Drop, B: RxEnd + Drop, C: TxEnd + Drop, D: RxEnd + Drop> LinkOver<A, B, C, D> {
     /// The phase.

@@ -8,7 +8,8 @@ use Rattle.un_journal.specs.LaneSteps.{bare}
 use Rattle.un_journal.specs.Step.{Work, offer_head}
 use Rattle.un_lane.specs.Way.{Adds}
 use Rattle.un_lane.specs.Answered.{UnlessDid}
-use Rattle.un_link.proofs.Offers.{cursor_small, feed_is, accept_is, accept_does, accept_advances, accept_stays, refuse_does, pushed}
+use Rattle.un_script.proofs.CursorLemmas.{feed_is}
+use Rattle.un_link.proofs.Offers.{cursor_small, accept_is, accept_does, accept_advances, accept_stays, refuse_does, pushed}
 use Rattle.un_link.proofs.Unchanged.{always}
 use Rattle.un_link.proofs.Working.{idle_does, plain_ready}
 use Rattle.un_link.proofs.half.Half.offer.Goals as goal

@@ -1,6 +1,7 @@
 use Rattle.std.proofs.Common.{rules, true, false, not, sym, ap, ◌∙◌, ◌≡◌, subst, length}
 use Rattle.un_frame.specs.Verdict.{verdict_of}
-use Rattle.un_link.proofs.Offers.{acts_anyway, feed_is, take_still, taken_low}
+use Rattle.un_script.proofs.CursorLemmas.{feed_is}
+use Rattle.un_link.proofs.Offers.{acts_anyway, take_still, taken_low}
 use Rattle.un_link.proofs.half.Half.stays.Goals as goal
 
 pub returns-then-can_offer : goal.returns-then-can_offer

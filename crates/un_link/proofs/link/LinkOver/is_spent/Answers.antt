@@ -2,7 +2,7 @@ use Rattle.std.proofs.Common.{Option, ◌∙◌, ap, sym, not, is_some}
 use Rattle.un_frame.specs.declared.params.Lane.TheVariants.{Outward, Inward}
 use Rattle.un_journal.specs.Script.{Frame}
 use Rattle.un_journal.specs.History.{past}
-use Rattle.un_link.proofs.Offers.{head_is}
+use Rattle.un_script.proofs.CursorLemmas.{head_is}
 use Rattle.un_link.proofs.link.LinkOver.is_spent.Goals as goal
 
 pub returns-in-Outward : goal.returns-in-Outward
