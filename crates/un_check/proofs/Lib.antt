@@ -13,3 +13,4 @@ mod TransferKept
 mod Rows
 mod TransferLookups
 mod TransferSteps
+mod MomentReads
