@@ -14,3 +14,5 @@ mod Rows
 mod TransferLookups
 mod TransferSteps
 mod MomentReads
+mod MomentSteps
+mod MomentStops

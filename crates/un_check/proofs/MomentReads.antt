@@ -95,3 +95,22 @@ differs_before h at xs ys k d = record {
   where
     low : k - at < length xs
     low = omega (arith, d.from, d.before)
+
+-- WHAT A HISTORY BEGINS WITH
+
+-- up to the end of what is read
+pub read_front : (h : History) (at : ℕ) (lines : History) (next : ℕ) → Reads h at lines next → take next h ≡ take at h ++ lines
+read_front h at lines next r = ap (λ i. take i h) r.is_next ∙ (take-add at (length lines) h ∙ ap (λ i. take at h ++ i) r.are_lines)
+
+-- up to where it differs
+pub differs_front : (h : History) (at : ℕ) (lines : History) (k : ℕ) → Differs h at lines k → take k h ≡ take at h ++ take (k - at) lines
+differs_front h at lines k d = ap (λ i. take i h) place ∙ (take-add at (k - at) h ∙ ap (λ i. take at h ++ i) d.are_lines)
+  where
+    place : k ≡ at + (k - at)
+    place = omega (arith, d.from)
+
+-- a line behind the front of a list, which goes on as the list does, is the list's
+pub next_of : {X : Type 0} (xs more rest : List X) (e : X) (k : ℕ) → k < length xs → take k xs ++ e ∷ rest ≡ xs ++ more → slice_get xs k ≡ Some e
+next_of [] more rest e k low q = absurd (omega arith)
+next_of (x ∷ xs) more rest e zero low q = ap Some (let same : x ≡ e = cc in same)
+next_of (x ∷ xs) more rest e (suc k) low q = next_of xs more rest e k (omega arith) (let same : take k xs ++ e ∷ rest ≡ xs ++ more = cc in same)

@@ -1,5 +1,5 @@
--- The laws of the moments of a legal history. Each is the contract of a public call in src/laws_moments.rt. A step's lines are told from
--- those of a history by their indices.
+-- The laws of the moments of a legal history, for who reads one line by line. Each is the contract of a public call in
+-- src/laws_moments.rt.
 use Rattle.std.specs.Prelude.{◌≡◌, ℕ, ◌+◌, ◌<◌, ◌≤◌, false, [], ◌∷◌, ◌++◌, length, reverse, take, Some, slice_get}
 use Rattle.un_frame.specs.Params.{AreInRange}
 use Rattle.un_journal.specs.Script.{Script}
