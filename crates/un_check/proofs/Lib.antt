@@ -13,3 +13,6 @@ mod TransferKept
 mod Rows
 mod TransferLookups
 mod TransferSteps
+mod MomentReads
+mod MomentSteps
+mod MomentStops

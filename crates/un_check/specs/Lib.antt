@@ -13,3 +13,5 @@ pub mod TransferLaws
 pub mod Receiving
 pub mod ReceivingLines
 pub mod ReceivingLaws
+pub mod Moments
+pub mod MomentLaws

@@ -9,9 +9,11 @@
 //! ```
 //!
 //! `Receiving` is a lane's receiving end, and `Transfer` a transfer of the lane as it is kept. The other calls do nothing: each is a
-//! law, that what is kept is what the lane's lines say, and that a line which is said is the one that the step writes.
+//! law, that what is kept is what the lane's lines say, that a line which is said is the one that the step writes, and where a reading
+//! of a whole history stops.
 #![tactic(auto)]
 
+mod laws_moments;
 mod laws_receiving;
 mod laws_transfers;
 mod reading;
@@ -19,6 +21,7 @@ mod receiving;
 mod source;
 mod transfers;
 
+pub use laws_moments::{readings_stop, reads_are_joined, steps_leave_moments, stop_is_one};
 pub use laws_receiving::{
     delivery_is_said, post_is_said, receive_counts_are_said, receive_pool_is_kept,
     receiving_follows, receiving_is_kept, rx_done_is_said,
