@@ -1,3 +1,6 @@
+mod BuildingTests
+mod BuildingKept
+mod BuildingSteps
 mod ReceivingLists
 mod ReceivingSpans
 mod ReceivingLanded

@@ -1,6 +1,6 @@
 -- What a checker keeps of what a lane builds: the accepted frames that are in no transfer yet. The rules on blocks follow the Linux
 -- drivers cdc_ncm, outward, and f_ncm, inward.
-use Rattle.std.specs.Prelude.{◌≡◌, ℕ, ◌+◌, ◌≤◌, Bool, true, false, not, ◌&&◌, List, [], length}
+use Rattle.std.specs.Prelude.{◌≡◌, ℕ, ◌+◌, ◌≤◌, Bool, false, not, ◌&&◌, List, [], length}
 use Rattle.un_facts.specs.Lists.{is_empty}
 use Rattle.un_frame.specs.declared.params.Lane.{Lane}
 use Rattle.un_frame.specs.declared.params.Lane.TheVariants.{Outward, Inward}

@@ -12,12 +12,14 @@
 //! law, that what is kept is what the lane's lines say, and that a line which is said is the one that the step writes.
 #![tactic(auto)]
 
+mod laws_building;
 mod laws_receiving;
 mod laws_transfers;
 mod reading;
 mod receiving;
 mod transfers;
 
+pub use laws_building::{building_is_kept, offer_is_said, tick_is_said};
 pub use laws_receiving::{
     delivery_is_said, post_is_said, receive_counts_are_said, receive_pool_is_kept,
     receiving_follows, receiving_is_kept, rx_done_is_said,
