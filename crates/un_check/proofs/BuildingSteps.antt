@@ -1,14 +1,11 @@
 -- What an offer and a tick write, by what is kept of what a lane builds.
-use Rattle.std.proofs.Common.{◌≡◌, ℕ, ◌+◌, ◌-◌, ◌<◌, ◌≤◌, ◌⊎◌, inl, inr, Bool, true, false, not, ◌&&◌, ◌==◌, nat_lt, List, [], ◌∷◌, length, Option, Some, None, refl, sym, ap, ◌∙◌, subst, arith, if◌then◌else◌}
-use Rattle.std.proofs.lemmas.Bool.{ltb-true}
-use Rattle.std.proofs.lemmas.List.{length_push}
-use Rattle.std.proofs.lemmas.Option.{same_Some}
+use Rattle.std.proofs.Common.{◌≡◌, ℕ, ◌+◌, ◌-◌, Bool, true, false, not, ◌&&◌, ◌==◌, nat_lt, List, [], ◌∷◌, Option, Some, None, refl, sym, ap, ◌∙◌, subst, arith, if◌then◌else◌}
 use Rattle.un_facts.specs.Lists.{is_empty}
 use Rattle.un_frame.specs.declared.params.Params.{Params}
 use Rattle.un_frame.specs.declared.params.Lane.{Lane}
 use Rattle.un_frame.specs.declared.params.Lane.TheVariants.{Outward, Inward}
-use Rattle.un_frame.specs.Cut.{closed_span, ends_at_limit}
-use Rattle.un_frame.specs.Lanes.{packs, frames_fit}
+use Rattle.un_frame.specs.Cut.{closed_span}
+use Rattle.un_frame.specs.Lanes.{packs}
 use Rattle.un_journal.specs.declared.lines.Line.TheVariants.{Took, Made, Waited}
 use Rattle.un_journal.specs.declared.actions.Answer.{Answer}
 use Rattle.un_journal.specs.Script.{Script, Frame}
@@ -17,8 +14,9 @@ use Rattle.un_journal.specs.Lookup.{feed_head, built_frames, tx_home, block_open
 use Rattle.un_journal.specs.LaneSteps.{Outcome, Writes, Answers, bare, accept, made_line, made_lines, tick_built}
 use Rattle.un_check.specs.Says.{SaysAll}
 use Rattle.un_check.specs.Building.{Building, IsBuilt, end, open_in}
-use Rattle.un_check.specs.BuildingLines.{GoesOn, IsSpan, took, closes, with_frame, made_entry, made_entries, offer_needs, offer_lines, tick_needs, tick_lines}
+use Rattle.un_check.specs.BuildingLines.{GoesOn, took, closes, with_frame, made_entry, made_entries, offer_needs, offer_lines, tick_needs, tick_lines}
 use Rattle.un_check.proofs.BuildingTests.{built_none, open_is}
+use Rattle.un_check.proofs.BuildingSpans.{closes_span}
 use Rattle.un_check.proofs.BuildingKept.{of, same_of, taken_of, took_kept}
 
 open_of : (script : Script) (lane : Lane) (g : History) (b : Building) → IsBuilt script lane g b → block_open script.params lane g ≡ open_in lane b
@@ -70,51 +68,11 @@ module _ (script : Script) (lane : Lane) (sender home : ℕ) (g : History) (b : 
       (subst (SaysAll (offer_lines sender (made g) home frame (of script lane b))) (sym offered_is)
       (offer_said script lane sender (with_frame frame b) g b span (offer_needs lane (of script lane b) span && home == 0)))
 
--- WHAT AN OFFER CLOSES
-
--- a span that begins with the first of some built frames and ends before or behind the last
-ends_last : (lane : Lane) (frame : Frame) (b : Building) (from to : ℕ) → from ≡ b.cover → from < to → (to ≡ end b) ⊎ (to ≡ end b + 1) → IsSpan from to (took frame b)
-ends_last lane frame b from to first some last =
-    let n : length (with_frame frame b) ≡ length b.frames + 1 = length_push b.frames frame in
-    record {
-      begins = first;
-      is_some = some;
-      is_accepted = by last n;
-      leaves = λ o. leaves_one last n;
-    }
-  where
-    by : (to ≡ end b) ⊎ (to ≡ end b + 1) → length (with_frame frame b) ≡ length b.frames + 1 → to ≤ end (took frame b)
-    by (inl e) n = omega arith
-    by (inr e) n = omega arith
-
-    leaves_one : (to ≡ end b) ⊎ (to ≡ end b + 1) → length (with_frame frame b) ≡ length b.frames + 1 → end (took frame b) ≤ to + 1
-    leaves_one (inl e) n = omega arith
-    leaves_one (inr e) n = omega arith
-
-module _ (lane : Lane) (frame : Frame) (b : Building) (span : ℕ × ℕ) where
-  abbrev Spans : Type 0
-  Spans = IsSpan span.0 span.1 (took frame b)
-
-  this : (from to : ℕ) → ◌≡◌ {A = Option (ℕ × ℕ)} (Some (from, to)) (Some span) → IsSpan from to (took frame b) → IsSpan span.0 span.1 (took frame b)
-  this from to e s = subst (λ (i : ℕ × ℕ). IsSpan i.0 i.1 (took frame b)) (same_Some (from, to) span e) s
-
-  by_tests : (packed less fit full : Bool) → (packed ≡ false → b.cover ≡ end b) → nat_lt b.cover (end b) ≡ less
-      → (if not packed then Some (end b, end b + 1) else (if less && not fit then Some (b.cover, end b) else (if full then Some (b.cover, end b + 1) else None))) ≡ Some span
-      → IsSpan span.0 span.1 (took frame b)
-  by_tests false less fit full alone l e = this (end b) (end b + 1) e (ends_last lane frame b (end b) (end b + 1) (sym (alone refl)) (omega arith) (inr refl))
-  by_tests true true false full alone l e = this b.cover (end b) e (ends_last lane frame b b.cover (end b) refl (ltb-true b.cover (end b) l) (inl refl))
-  by_tests true true true true alone l e = this b.cover (end b + 1) e (ends_last lane frame b b.cover (end b + 1) refl (omega arith) (inr refl))
-  by_tests true false fit true alone l e = this b.cover (end b + 1) e (ends_last lane frame b b.cover (end b + 1) refl (omega arith) (inr refl))
-  by_tests true true true false alone l e = absurd (cc)
-  by_tests true false fit false alone l e = absurd (cc)
-
-  pub closes_span : (packs b.params.class b.lane ≡ false → b.cover ≡ end b) → closes frame b ≡ Some span → IsSpan span.0 span.1 (took frame b)
-  closes_span alone e = by_tests (packs b.params.class b.lane) (nat_lt b.cover (end b)) (frames_fit b.params (with_frame frame b)) (ends_at_limit b.lane b.params (end b + 1 - b.cover)) alone refl e
-
+-- what an offer closes may follow
 pub offer_goes : (script : Script) (lane l : Lane) (k : ℕ) (g : History) (b : Building) (frame : Frame) (span : ℕ × ℕ)
     → IsBuilt script lane g b → (packs script.params.class lane ≡ false → cover g ≡ taken g) → closes frame b ≡ Some span → GoesOn (Made l k span.0 span.1) (took frame b)
 offer_goes script lane l k g b frame span w alone e =
-    closes_span lane frame b span (λ p. sym w.cover_is ∙ alone (sym (ap (λ (c : Building). packs c.params.class c.lane) (same_of script lane g b w)) ∙ p) ∙ w.taken_is) e
+    closes_span frame b span (λ p. sym w.cover_is ∙ alone (sym (ap (λ (c : Building). packs c.params.class c.lane) (same_of script lane g b w)) ∙ p) ∙ w.taken_is) e
 
 -- A TICK
 

@@ -1,4 +1,5 @@
 mod BuildingTests
+mod BuildingSpans
 mod BuildingKept
 mod BuildingSteps
 mod ReceivingLists

@@ -1,4 +1,5 @@
 pub mod Says
+pub mod Drafts
 pub mod Building
 pub mod BuildingLines
 pub mod BuildingLaws
