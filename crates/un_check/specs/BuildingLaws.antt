@@ -1,6 +1,6 @@
 -- The laws of what a checker keeps of what a lane builds. Each is the contract of a public call in src/laws_building.rt. A lane's lines
 -- are g, the newest first.
-use Rattle.std.specs.Prelude.{◌≡◌, ℕ, false, List, [], ◌∷◌, Some}
+use Rattle.std.specs.Prelude.{◌≡◌, ℕ, ◌<◌, false, List, [], ◌∷◌, Some, length}
 use Rattle.un_facts.specs.Numbers.{one_if}
 use Rattle.un_frame.specs.declared.params.Lane.{Lane}
 use Rattle.un_frame.specs.Lanes.{packs}
@@ -11,7 +11,7 @@ use Rattle.un_journal.specs.History.{History, taken, cover, made}
 use Rattle.un_journal.specs.Lookup.{built_frames, claim, feed_head, tx_home}
 use Rattle.un_journal.specs.LaneSteps.{bare, accept, tick_built}
 use Rattle.un_check.specs.Says.{SaysAll}
-use Rattle.un_check.specs.Building.{Building, IsBuilt, nothing_built, claims}
+use Rattle.un_check.specs.Building.{Building, IsBuilt, nothing_built, end, claims}
 use Rattle.un_check.specs.BuildingLines.{GoesOn, IsTold, after, took, closes, offer_lines, tick_lines}
 
 -- WHAT IS KEPT
@@ -47,3 +47,7 @@ abbrev pub TickIsSaid : Type 0
 TickIsSaid = (script : Script) (lane : Lane) (home : ℕ) (g : History) (b : Building)
     → IsBuilt script lane g b → tx_home script.params lane g ≡ home
     → SaysAll (tick_lines (made g) home b) (tick_built script.params lane (built_frames script lane g) g)
+
+-- what it closes may follow
+abbrev pub TickGoesOn : Type 0
+TickGoesOn = (l : Lane) (k : ℕ) (b : Building) → 0 < length b.frames → GoesOn (Made l k b.cover (end b)) b

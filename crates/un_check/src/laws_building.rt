@@ -6,6 +6,7 @@ ghost use Rattle.un_check.specs.BuildingLaws.{
   NothingIsBuilt,
   OfferGoesOn,
   OfferIsSaid,
+  TickGoesOn,
   TickIsSaid,
 };
 
@@ -23,7 +24,8 @@ pub fn offer_is_said()
     ensures goes_on { OfferGoesOn }
 {}
 
-/// What is said of a tick is what the step writes.
+/// What is said of a tick is what the step writes, and the transfer of all that is built may follow.
 pub fn tick_is_said()
-    ensures { TickIsSaid }
+    ensures said { TickIsSaid }
+    ensures goes_on { TickGoesOn }
 {}
