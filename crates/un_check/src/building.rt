@@ -1,7 +1,6 @@
 //! What a checker keeps of what a lane builds.
 
-ghost use Rattle.std.specs.Prelude.{◌≡◌, ◌+◌, ◌-◌, ◌<◌, ◌≤◌, ◌^◌, ◌↔◌, ◌||◌, [], None, Some, IfOk, IsTrue, length, map, take, true};
-ghost use Rattle.un_facts.specs.Lists.{is_empty};
+ghost use Rattle.std.specs.Prelude.{◌≡◌, ◌+◌, ◌-◌, ◌<◌, ◌≤◌, ◌^◌, ◌↔◌, [], None, Some, IfOk, IsTrue, length, take, true};
 ghost use Rattle.un_frame.specs.Cut.{ends_at_limit};
 ghost use Rattle.un_frame.specs.Params.{Agree, AreInRange};
 ghost use Rattle.un_frame.specs.Wire.{form, frame_fits};
@@ -15,9 +14,9 @@ use un_frame::{Lane, Params, TIMER_TICKS};
 
 /// What a lane builds, as its lines leave it: the accepted frames that are in no transfer yet. So the bytes of the next transfer are
 /// known before its line is read. `closes` says which transfer one more frame makes: `keep` accepts a frame that makes none,
-/// `make_with` one that does, and `make_all`, `wait` and `drop_all` take the lines without a frame. Frames are as long as a lane
-/// accepts them. All calls but the two that make a transfer take constant time, and the copying of a frame; no call after `make`
-/// takes memory.
+/// `make_with` one that does, and `make_all`, `wait` and `drop_all` take the lines that accept no frame. Each frame has 14 bytes at
+/// least, and fits a transfer of its own, as every frame that a lane accepts. The two calls that make a transfer take the time to
+/// write its bytes, `keep` the time to copy its frame, and the others constant time. No call after `make` takes memory.
 #[derive(Drop)]
 pub struct Building {
     draft: Draft,
