@@ -1,3 +1,7 @@
+mod BuildingTests
+mod BuildingSpans
+mod BuildingKept
+mod BuildingSteps
 mod ReceivingLists
 mod ReceivingSpans
 mod ReceivingLanded

@@ -1,6 +1,6 @@
 -- What a checker keeps of what a lane builds: the accepted frames that are in no transfer yet. The rules on blocks follow the Linux
 -- drivers cdc_ncm, outward, and f_ncm, inward.
-use Rattle.std.specs.Prelude.{◌≡◌, ℕ, ◌+◌, ◌≤◌, Bool, true, false, not, ◌&&◌, List, [], length}
+use Rattle.std.specs.Prelude.{◌≡◌, ℕ, ◌+◌, ◌<◌, ◌≤◌, ◌^◌, Bool, true, false, not, ◌&&◌, List, [], length}
 use Rattle.un_facts.specs.Lists.{is_empty}
 use Rattle.un_frame.specs.declared.params.Lane.{Lane}
 use Rattle.un_frame.specs.declared.params.Lane.TheVariants.{Outward, Inward}
@@ -9,6 +9,7 @@ use Rattle.un_frame.specs.Lanes.{packs, outward_only}
 use Rattle.un_journal.specs.Script.{Script, Frame}
 use Rattle.un_journal.specs.History.{History, taken, cover, took_last}
 use Rattle.un_journal.specs.Lookup.{built_frames, pending}
+use Rattle.un_check.specs.declared.building.Building.TheInside.{Inside}
 
 -- the parameters and the lane; the end of the last transfer that was made or dropped, and the accepted frames from there on; whether
 -- the last of them was accepted after that transfer was made; and the ticks that an open outward block waits yet
@@ -50,3 +51,20 @@ pub record IsBuilt (script : Script) (lane : Lane) (g : History) (b : Building) 
   pub pending_is : pending script.params lane g ≡ b.pending
   -- outward what isn't an open block is a remainder: one frame at most
   pub remainder : lane ≡ Outward → b.is_fresh ≡ false → length b.frames ≤ 1
+
+-- as the struct of that name keeps it
+abbrev pub building_in : Inside → Building
+building_in k = record {
+  params = k.draft.params;
+  lane = k.lane;
+  cover = k.cover;
+  frames = k.draft.frames;
+  is_fresh = k.is_fresh;
+  pending = k.pending;
+}
+
+-- what it holds besides: in a lane that packs one frame into a transfer nothing stays built
+pub record IsBuilding (k : Inside) : Type 0 where
+  pub limit : k.limit ≡ k.draft.params.datagrams
+  pub packs_it : 0 < length k.draft.frames → packs k.draft.params.class k.lane ≡ true
+  pub below : k.cover + length k.draft.frames < 2 ^ 64

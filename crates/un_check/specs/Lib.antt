@@ -1,9 +1,9 @@
 pub mod Says
-pub mod Moments
 pub mod Half
 pub mod HalfLines
 pub mod HalfLaws
 pub mod Judge
+pub mod Drafts
 pub mod Building
 pub mod BuildingLines
 pub mod BuildingLaws

@@ -6,13 +6,22 @@
 //! end.add(false, (0, 0), line)?;                      // of each line of the lane, where it is one that may follow
 //! end.rx_done_line(lane);                             // Some(Opened) of the first transfer that landed, once none is read
 //! end.deliver_number();                               // the transfer that is read, and its next datagram
+//!
+//! let mut building = Building::make(alloc, &params, lane)?;
+//! match building.closes(frame) {                      // of a frame that is accepted: the span of the transfer that it makes
+//!     None => building.keep(frame),                   // it makes none, and stays in the open block
+//!     Some(span) => same = building.make_with(frame, span, serial, bytes),    // whether the transfer has these bytes
+//! }
 //! ```
 //!
-//! `Receiving` is a lane's receiving end, and `Transfer` a transfer of the lane as it is kept. The other calls do nothing: each is a
-//! law, that what is kept is what the lane's lines say, that a line which is said is the one that the step writes, and where a reading
-//! of a whole history stops.
+//! `Receiving` is a lane's receiving end, `Building` what the lane builds, and `Transfer` a transfer of the lane as it is kept. The
+//! other calls do nothing: each is a law, that what is kept is what the lane's lines say, that a line which is said is the one that
+//! the step writes, and where a reading of a whole history stops.
 #![tactic(auto)]
 
+mod building;
+mod draft;
+mod laws_building;
 mod laws_moments;
 mod laws_receiving;
 mod laws_transfers;
@@ -21,6 +30,8 @@ mod receiving;
 mod source;
 mod transfers;
 
+pub use building::Building;
+pub use laws_building::{building_is_kept, offer_is_said, tick_is_said};
 pub use laws_moments::{readings_stop, reads_are_joined, steps_leave_moments, stop_is_one};
 pub use laws_receiving::{
     delivery_is_said, post_is_said, receive_counts_are_said, receive_pool_is_kept,
