@@ -20,3 +20,4 @@ mod TransferSteps
 mod MomentReads
 mod MomentSteps
 mod MomentStops
+mod TransferGoesOn

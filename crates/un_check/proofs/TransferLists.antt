@@ -1,8 +1,9 @@
 -- Lists of transfers: one more at the end, and one of them marked.
-use Rattle.std.proofs.Common.{◌≡◌, ℕ, zero, suc, ◌<◌, List, [], ◌∷◌, ◌++◌, length, Some, slice_get, refl, ap, arith}
+use Rattle.std.proofs.Common.{◌≡◌, ℕ, zero, suc, ◌<◌, List, [], ◌∷◌, ◌++◌, length, Some, slice_get, slice_set, refl, ap, arith}
+use Rattle.std.proofs.Math.ListN.{get_or}
 use Rattle.un_check.specs.declared.transfers.Transfer.{Transfer}
 use Rattle.un_check.specs.Transfers.{span_in, mark_in}
-use Rattle.un_check.specs.TransferLines.{marked_at}
+use Rattle.un_check.specs.TransferLines.{marked_at, with_mark}
 
 pub get_last : {X : Type 0} (xs : List X) (x : X) → slice_get (xs ++ x ∷ []) (length xs) ≡ Some x
 get_last [] x = refl
@@ -37,3 +38,9 @@ marked_other zero cause (x ∷ xs) zero apart = absurd (apart refl)
 marked_other zero cause (x ∷ xs) (suc j) apart = refl
 marked_other (suc k) cause (x ∷ xs) zero apart = refl
 marked_other (suc k) cause (x ∷ xs) (suc j) apart = marked_other k cause xs j (λ e. apart (ap suc e))
+
+-- to mark is to set the element of a serial
+pub set_marks : (k cause : ℕ) (x : Transfer) (all : List Transfer) → k < length all → x ≡ get_or all k x → slice_set all k (with_mark cause x) ≡ marked_at k cause all
+set_marks k cause x [] h e = absurd (omega arith)
+set_marks zero cause x (y ∷ ys) h e = ap (λ z. with_mark cause z ∷ ys) e
+set_marks (suc k) cause x (y ∷ ys) h e = ap (λ zs. y ∷ zs) (set_marks k cause x ys (omega arith) e)

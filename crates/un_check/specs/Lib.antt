@@ -2,12 +2,12 @@ pub mod Says
 pub mod Half
 pub mod HalfLines
 pub mod HalfLaws
-pub mod Judge
 pub mod Drafts
 pub mod Building
 pub mod BuildingLines
 pub mod BuildingLaws
 pub mod Transfers
+pub mod TransfersInside
 pub mod TransferLines
 pub mod TransferLaws
 pub mod Receiving

@@ -1,18 +1,20 @@
 -- What is proved of a lane's transfers, and of what a checker says by what it keeps of them. Each is the contract of a public call in
 -- src/laws_transfers.rt.
-use Rattle.std.specs.Prelude.{◌≡◌, ℕ, true, nat_lt, List, [], ◌∷◌, if◌then◌else◌}
+use Rattle.std.specs.Prelude.{◌≡◌, ℕ, Bool, true, false, nat_lt, List, [], ◌∷◌, Some, if◌then◌else◌}
 use Rattle.std.specs.Option.{option_map}
 use Rattle.un_frame.specs.declared.kinds.Phase.{Phase}
+use Rattle.un_frame.specs.declared.kinds.Planned.{Planned}
 use Rattle.un_frame.specs.declared.params.Lane.{Lane}
 use Rattle.un_journal.specs.declared.lines.Line.{Line}
+use Rattle.un_journal.specs.declared.lines.Line.TheVariants.{Marked, Cut}
 use Rattle.un_journal.specs.History.{History, flying, waiting, ended, returned, posted}
 use Rattle.un_journal.specs.Lookup.{queued, deferred, unmarked, is_deferring, is_asleep, is_stopping}
 use Rattle.un_journal.specs.LaneSteps.{bare, tx_done, clear_set}
 use Rattle.un_journal.specs.Script.{Script, planned}
 use Rattle.un_journal.specs.Step.{take_flight, land_flight, unlink}
 use Rattle.un_check.specs.Says.{Says}
-use Rattle.un_check.specs.Transfers.{Transfers, AreOf, no_transfers}
-use Rattle.un_check.specs.TransferLines.{GoesOn, after, first_waiting, serials_from, flying_serials, unmarked_serials, take_line, land_line, tx_done_line, unlink_line, clear_line}
+use Rattle.un_check.specs.Transfers.{Transfers, AreCounts, AreOf, no_transfers}
+use Rattle.un_check.specs.TransferLines.{GoesOn, after, first_waiting, waiting_serial, serials_from, flying_serials, unmarked_serials, unmarked_serial, take_line, land_line, tx_done_line, unlink_line, clear_line}
 
 -- A LINE KEEPS THEM
 
@@ -78,3 +80,32 @@ UnlinkIsSaid = (phase : Phase) (lane : Lane) (cause : ℕ) (g : History) (t : Tr
 abbrev pub ClearIsSaid : Type 0
 ClearIsSaid = (lane : Lane) (g : History) (t : Transfers) → AreOf g t
     → Says (option_map bare (clear_line lane t)) (clear_set lane g)
+
+-- WHAT IS SAID GOES ON
+
+-- a line that is said is one of these transfers' next
+abbrev pub TakeGoesOn : Type 0
+TakeGoesOn = (asleep is_deferring : Bool) (lane : Lane) (count : ℕ) (t : Transfers) (line : Line)
+    → take_line asleep is_deferring lane count t ≡ Some line → GoesOn line t
+
+abbrev pub LandGoesOn : Type 0
+LandGoesOn = (lane : Lane) (plan : Planned) (t : Transfers) (line : Line)
+    → AreCounts t → land_line lane plan t ≡ Some line → GoesOn line t
+
+abbrev pub TxDoneGoesOn : Type 0
+TxDoneGoesOn = (lane : Lane) (t : Transfers) (line : Line) → tx_done_line lane t ≡ Some line → GoesOn line t
+
+abbrev pub UnlinkGoesOn : Type 0
+UnlinkGoesOn = (is_deferring : Bool) (lane : Lane) (cause count : ℕ) (t : Transfers) (line : Line)
+    → AreCounts t → unlink_line is_deferring lane cause count t ≡ Some line → GoesOn line t
+
+abbrev pub ClearGoesOn : Type 0
+ClearGoesOn = (lane : Lane) (t : Transfers) (line : Line) → clear_line lane t ≡ Some line → GoesOn line t
+
+-- so is what a control writes: that the first that waits is cut, where none flies, and that the first that a stop marks is marked
+abbrev pub CutGoesOn : Type 0
+CutGoesOn = (lane : Lane) (k cause : ℕ) (t : Transfers) → t.is_out ≡ false → waiting_serial t ≡ Some k → GoesOn (Cut lane k cause) t
+
+abbrev pub MarkGoesOn : Type 0
+MarkGoesOn = (is_deferring : Bool) (lane : Lane) (k cause : ℕ) (t : Transfers)
+    → AreCounts t → unmarked_serial is_deferring t ≡ Some k → GoesOn (Marked lane k cause) t

@@ -24,6 +24,10 @@ next_mark t = mark_in (slice_get t.all t.over)
 abbrev pub first_waiting : Transfers → ℕ
 first_waiting t = t.over + one_if t.is_out
 
+-- that transfer, if there is one
+abbrev pub waiting_serial : Transfers → Option ℕ
+waiting_serial t = if nat_lt (first_waiting t) (length t.all) then Some (first_waiting t) else None
+
 -- those from a serial on
 abbrev pub serials_from : Transfers → ℕ → List ℕ
 serials_from t k = row_from k (length t.all - k)

@@ -1,16 +1,23 @@
 //! The laws of what a checker keeps of a lane's transfers, each the contract of a call that does nothing.
 
 ghost use Rattle.un_check.specs.TransferLaws.{
+  ClearGoesOn,
   ClearIsSaid,
+  CutGoesOn,
   DeferredIsKept,
   FlyingIsKept,
+  LandGoesOn,
   LandIsSaid,
   LinesKeepTransfers,
+  MarkGoesOn,
   NoLineMakesNone,
   QueuedIsKept,
   ReturnedIsKept,
+  TakeGoesOn,
   TakeIsSaid,
+  TxDoneGoesOn,
   TxDoneIsSaid,
+  UnlinkGoesOn,
   UnlinkIsSaid,
   UnmarkedIsKept,
   WaitingIsKept,
@@ -40,4 +47,16 @@ pub fn transfer_steps_are_said()
     ensures tx_done { TxDoneIsSaid }
     ensures unlink { UnlinkIsSaid }
     ensures clear { ClearIsSaid }
+{}
+
+/// Each line that is said by what is kept goes on from it, and so does what a control writes of the transfers: that the first that
+/// waits is cut, where none flies, and that the first that a stop marks is marked.
+pub fn said_transfers_go_on()
+    ensures take { TakeGoesOn }
+    ensures land { LandGoesOn }
+    ensures tx_done { TxDoneGoesOn }
+    ensures unlink { UnlinkGoesOn }
+    ensures clear { ClearGoesOn }
+    ensures cut { CutGoesOn }
+    ensures mark { MarkGoesOn }
 {}

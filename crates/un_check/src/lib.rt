@@ -12,11 +12,17 @@
 //!     None => building.keep(frame),                   // it makes none, and stays in the open block
 //!     Some(span) => same = building.make_with(frame, span, serial, bytes),    // whether the transfer has these bytes
 //! }
+//!
+//! let mut transfers = Transfers::make(alloc);
+//! transfers.add(line)?;                               // of each line of the lane, where it is one that may follow
+//! transfers.take_line(false, false, lane, posted);    // Some(Flying) of the first that waits, or Some(Cut) where it is marked
+//! transfers.land_line(lane, planned);                 // Some(Landed), Some(Retried), Some(Failed) or Some(Cut) of the one that flies
+//! transfers.unlink_line(false, lane, cause, posted);  // Some(Marked), and once all are marked Some(Recalled)
 //! ```
 //!
-//! `Receiving` is a lane's receiving end, `Building` what the lane builds, and `Transfer` a transfer of the lane as it is kept. The
-//! other calls do nothing: each is a law, that what is kept is what the lane's lines say, that a line which is said is the one that
-//! the step writes, and where a reading of a whole history stops.
+//! `Receiving` is a lane's receiving end, `Building` what the lane builds, and `Transfers` its transfers. The other calls do nothing:
+//! each is a law, that what is kept is what the lane's lines say, that a line which is said is the one that the step writes and may
+//! follow, and where a reading of a whole history stops.
 #![tactic(auto)]
 
 mod building;
@@ -37,8 +43,10 @@ pub use laws_receiving::{
     delivery_is_said, post_is_said, receive_counts_are_said, receive_pool_is_kept,
     receiving_follows, receiving_is_kept, rx_done_is_said,
 };
-pub use laws_transfers::{lines_keep_transfers, transfer_steps_are_said, transfers_are_looked_up};
+pub use laws_transfers::{
+    lines_keep_transfers, said_transfers_go_on, transfer_steps_are_said, transfers_are_looked_up,
+};
 pub use reading::Reading;
 pub use receiving::Receiving;
 pub use source::Source;
-pub use transfers::Transfer;
+pub use transfers::{Transfer, Transfers};
