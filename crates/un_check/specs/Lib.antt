@@ -1,7 +1,4 @@
 pub mod Says
-pub mod Half
-pub mod HalfLines
-pub mod HalfLaws
 pub mod Drafts
 pub mod Building
 pub mod BuildingLines

@@ -33,7 +33,6 @@ mod laws_receiving;
 mod laws_transfers;
 mod reading;
 mod receiving;
-mod source;
 mod transfers;
 
 pub use building::Building;
@@ -48,5 +47,4 @@ pub use laws_transfers::{
 };
 pub use reading::Reading;
 pub use receiving::Receiving;
-pub use source::Source;
 pub use transfers::{Transfer, Transfers};

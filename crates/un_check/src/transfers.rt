@@ -230,8 +230,8 @@ impl Transfers {
         })
     }
 
-    /// The line that a step of a stop would write: the first transfer that isn't over and isn't marked is marked by control `cause`,
-    /// and where none is left a posted receive request comes home.
+    /// The line that a step of a stop would write: the next transfer that it marks (`unmarked`) is marked by control `cause`, and
+    /// where none is left a posted receive request comes home. `posted` is how many receive requests are posted.
     pub fn unlink_line(
         &self,
         is_deferring: bool,
