@@ -21,3 +21,6 @@ mod MomentReads
 mod MomentSteps
 mod MomentStops
 mod TransferGoesOn
+mod HalfKept
+mod HalfSteps
+mod HalfGoesOn

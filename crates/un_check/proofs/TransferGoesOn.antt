@@ -14,16 +14,16 @@ use Rattle.un_check.specs.TransferLines.{GoesOn, first_unmarked, first_waiting, 
 use Rattle.un_check.proofs.TransferCounts.{out_made}
 
 -- what holds of what either choice says holds of what is said
-chosen : {X : Type 0} (P : X → Type 0) (b : Bool) (p q : Option X) (x : X)
+pub chosen : {X : Type 0} (P : X → Type 0) (b : Bool) (p q : Option X) (x : X)
     → (b ≡ true → p ≡ Some x → P x) → (b ≡ false → q ≡ Some x → P x) → (if b then p else q) ≡ Some x → P x
 chosen P true p q x one other e = one refl e
 chosen P false p q x one other e = other refl e
 
 -- what is said is the one, or none is
-said : {X : Type 0} (P : X → Type 0) (x y : X) → P x → Some x ≡ Some y → P y
+pub said : {X : Type 0} (P : X → Type 0) (x y : X) → P x → Some x ≡ Some y → P y
 said P x y p e = subst P (same_Some x y e) p
 
-unsaid : {X : Type 0} (P : X → Type 0) (y : X) → None ≡ Some y → P y
+pub unsaid : {X : Type 0} (P : X → Type 0) (y : X) → None ≡ Some y → P y
 unsaid P y e = absurd (none-some y e)
 
 both_true : (a b : Bool) → (a && b) ≡ true → (a ≡ true) × (b ≡ true)

@@ -1,4 +1,8 @@
 pub mod Says
+pub mod Half
+pub mod HalfLines
+pub mod HalfCalls
+pub mod HalfLaws
 pub mod Drafts
 pub mod Building
 pub mod BuildingLines

@@ -165,6 +165,13 @@ impl Building {
         self.draft.clear();
     }
 
+    /// The lane.
+    pub fn lane(&self) -> Lane
+        ensures { result ≡ self.now.lane }
+    {
+        self.lane
+    }
+
     /// How many ticks an open outward block waits yet.
     pub fn pending(&self) -> u32
         ensures { result ≡ self.now.pending }

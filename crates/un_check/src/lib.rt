@@ -28,15 +28,18 @@
 mod building;
 mod draft;
 mod laws_building;
+mod laws_half;
 mod laws_moments;
 mod laws_receiving;
 mod laws_transfers;
 mod reading;
 mod receiving;
+mod source;
 mod transfers;
 
 pub use building::Building;
 pub use laws_building::{building_is_kept, offer_is_said, tick_is_said};
+pub use laws_half::{half_is_kept, said_goes_on, work_is_said};
 pub use laws_moments::{readings_stop, reads_are_joined, steps_leave_moments, stop_is_one};
 pub use laws_receiving::{
     delivery_is_said, post_is_said, receive_counts_are_said, receive_pool_is_kept,
@@ -47,4 +50,5 @@ pub use laws_transfers::{
 };
 pub use reading::Reading;
 pub use receiving::Receiving;
+pub use source::Source;
 pub use transfers::{Transfer, Transfers};
